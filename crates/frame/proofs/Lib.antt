@@ -1,0 +1,5 @@
+pub mod DigitLaws
+pub mod LineLaws
+pub mod DecodeLaws
+pub mod LoneLaws
+pub mod WriteLaws

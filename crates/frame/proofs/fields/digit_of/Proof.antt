@@ -1,0 +1,22 @@
+-- Each branch knows the one test of `digitOf`.
+use borrow.Author.Tests.{lt-ltb, le-ltb}
+use borrow.Author.Needs.{needs}
+use Rattle.frame.proofs.fields.digit_of.Statement.{statement}
+use Rattle.frame.proofs.fields.digit_of.Tie as tie
+use Rattle.frame.proofs.fields.digit_of.Reads as reads
+use Rattle.frame.proofs.fields.digit_of.Lts as lts
+
+add-result : tie.Need-add-result
+add-result c = search needs
+
+returns : tie.Need-returns
+returns c = simp (lt-ltb _ _ (c .if1 .taken))
+
+add-result-2 : tie.Need-add-result-2
+add-result-2 c = search needs
+
+returns-2 : tie.Need-returns-2
+returns-2 c = simp (le-ltb _ _ (c .if1 .left))
+
+pub digit-of-spec : {M : Type 1} → statement M
+digit-of-spec = tie.close (tie.spec add-result returns add-result-2 returns-2)

@@ -1,0 +1,77 @@
+-- The buffer is cleared first, so that both refusals leave zeros and a written line has zeros behind it; the ways of writing are in
+-- `WriteLaws`.
+use mathlib.Core.Path.{_≡_, sym, ap, _∙_}
+use native.Mathlib.Nat.{zero-add}
+use native.Mathlib.Omega.{arith}
+use borrow.Author.Tests.{not-true, not-false}
+use Prim.Native.Nat.{ℕ}
+use denote.Ref.{now}
+use lib.ListN.{length, length-replicate}
+use Rattle.frame.specs.Frames.{frameOf}
+use Rattle.frame.proofs.WriteLaws.{write-unfit, write-short, write-done}
+use borrow.Author.Needs.{needs}
+use Rattle.frame.proofs.write_frame.Statement.{statement}
+use Rattle.frame.proofs.write_frame.Tie as tie
+use Rattle.frame.proofs.write_frame.Reads as reads
+use Rattle.frame.proofs.write_frame.Lts as lts
+use Rattle.frame.proofs.fields.clear.Reads as clear-reads
+use Rattle.frame.proofs.fields.line_len.Reads as line-len-reads
+use Rattle.frame.proofs.fields.line_number_fits.Reads as line-number-fits-reads
+use Rattle.frame.proofs.fields.write_line.Reads as write-line-reads
+
+clear-requires : tie.Need-clear-requires
+clear-requires c κs = search needs
+
+line-number-fits-requires : tie.Need-line-number-fits-requires
+line-number-fits-requires c κs = search needs
+
+same-length : tie.Need-same-length
+same-length c = search needs
+
+returns : tie.Need-returns
+returns c =
+    let a = c .before .before .before .before .before .before .before .args in
+    write-unfit (frameOf (a .frame)) (length (now (a .out))) (sym (c .before .line-number-fits .ensures) ∙ not-true _ (c .if1 .taken)) (c .before .before .before .before .clear .ensures)
+
+line-len-requires : tie.Need-line-len-requires
+line-len-requires c κs = search needs
+
+same-length-2 : tie.Need-same-length-2
+same-length-2 c = search needs
+
+returns-2 : tie.Need-returns-2
+returns-2 c =
+    let a = c .before .before .before .before .before .before .before .before .before .args in
+    write-short (frameOf (a .frame)) (length (now (a .out))) (omega (arith, c .before .line-len .ensures, ap length (c .before .before .before .before .before .before .clear .ensures), length-replicate {A = ℕ} (length (now (a .out))) 0)) (c .before .before .before .before .before .before .clear .ensures)
+
+write-line-requires : tie.Need-write-line-requires
+write-line-requires c κs = search needs
+
+same-length-3 : tie.Need-same-length-3
+same-length-3 c = search needs
+
+returns-3 : tie.Need-returns-3
+returns-3 c =
+    let a = c .before .before .before .before .before .before .before .before .before .before .before .before .before .args in
+    let cleared = c .before .before .before .before .before .before .before .before .before .before .clear .ensures in
+    let w = c .before .before .write-line in
+    write-done (frameOf (a .frame)) (length (now (a .out)))
+    (sym (c .before .before .before .before .before .before .before .line-number-fits .ensures) ∙ not-false _ (c .before .before .before .before .before .before .if1 .left))
+    (omega (arith, c .before .before .before .before .before .line-len .ensures, ap length cleared, length-replicate {A = ℕ} (length (now (a .out))) 0))
+    (w .ensures .0 ∙ zero-add _)
+    (rw cleared at (w .ensures .1))
+
+pub write-frame-spec : {M : Type 1} → statement M
+write-frame-spec =
+    tie.close
+    (tie.spec
+    clear-requires
+    line-number-fits-requires
+    same-length
+    returns
+    line-len-requires
+    same-length-2
+    returns-2
+    write-line-requires
+    same-length-3
+    returns-3)

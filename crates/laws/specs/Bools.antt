@@ -1,0 +1,52 @@
+-- Tests and choices: what the library lacks of Bool, each by cases.
+use mathlib.Core.Path.{_≡_, refl, sym}
+use mathlib.Core.Bool.{Bool, true, false, not, _&&_, _||_, cond, true≢false, Bool·not-not}
+use Rattle.model.specs.Nets.{xorb}
+
+-- two tests that are passed together are each passed
+pub both : (a b : Bool) → a && b ≡ true → (a ≡ true) × (b ≡ true)
+both true b e = (refl, e)
+both false b e = absurd (true≢false (sym e))
+
+-- two tests that both fail, where not even one is passed
+pub neither : (a b : Bool) → a || b ≡ false → (a ≡ false) × (b ≡ false)
+neither true b e = absurd (true≢false e)
+neither false b e = (refl, e)
+
+-- what stands before two alternatives may stand between them
+pub or-swap : (a b c : Bool) → a || (b || c) ≡ b || (a || c)
+or-swap true true c = refl
+or-swap true false c = refl
+or-swap false b c = refl
+
+-- not one of two: neither
+pub not-or : (a b : Bool) → not (a || b) ≡ not a && not b
+not-or true b = refl
+not-or false b = refl
+
+-- a complement on the left complements the exclusive or
+pub xorb-not : (a b : Bool) → xorb (not a) b ≡ not (xorb a b)
+xorb-not true b = sym (Bool·not-not b)
+xorb-not false b = refl
+
+-- an exclusive or that is false has two equal sides
+pub xorb-equal : (a b : Bool) → xorb a b ≡ false → a ≡ b
+xorb-equal true true e = refl
+xorb-equal true false e = e
+xorb-equal false b e = sym e
+
+-- a test of two Bools is passed at each of the four pairs
+abbrev pub AtAllPairs : (Bool → Bool → Bool) → Type 0
+AtAllPairs f = (f true true ≡ true) × (f true false ≡ true) × (f false true ≡ true) × (f false false ≡ true)
+
+-- then it is always passed
+pub by-table : (f : Bool → Bool → Bool) → AtAllPairs f → (x y : Bool) → f x y ≡ true
+by-table f h true true = h .0
+by-table f h true false = h .1
+by-table f h false true = h .2
+by-table f h false false = h .3
+
+-- a property of a choice, from that of each side
+pub by-cond : {A : Type 0} (P : A → Type 0) (b : Bool) {x y : A} → (b ≡ true → P x) → (b ≡ false → P y) → P (cond b x y)
+by-cond P true f g = f refl
+by-cond P false f g = g refl

@@ -1,0 +1,123 @@
+-- The samples marked P of document 01, 'Bench samples', proved together as one table by computing the definitions.
+use Prim.Native.Nat.{ℕ}
+use Prim.Native.String.{String}
+use mathlib.Core.Path.{_≡_, refl}
+use mathlib.Core.Bool.{true, false}
+use mathlib.Core.List.{List, [], _∷_, _++_}
+use Rattle.model.specs.Nets.{eval}
+use Rattle.model.specs.Evaluator.{evaluate}
+use Rattle.model.specs.Answers.Answer.{ok}
+use Rattle.model.specs.Clauses.{resolvent}
+use Rattle.model.specs.Checker.{check, program}
+use Rattle.model.specs.Forms.{foldXor, form, flip}
+use Rattle.model.specs.Forms.Core.{leaf}
+use Rattle.model.specs.Engine.{provable}
+use Rattle.samples.specs.Definitions.{definitions, bytes, saysOf}
+
+-- a AND a on the left, a on the right, and the proof that they agree
+abbrev lists : List ℕ
+lists = bytes "0101000101\n0200020002\n040004\n0101000001\n040002\n"
+
+abbrev proof : List ℕ
+proof = bytes "11000500020002\n11000400080002\n11000A000B0001\n110009000C0003\n"
+
+-- 4,096 clauses
+abbrev store : ℕ
+store = 32768
+
+-- what the checker says of lines behind these lists, what it says of a list alone, and what the engine says
+abbrev onLines : String → ℕ × ℕ
+onLines s = saysOf (check (lists ++ bytes s) store)
+
+abbrev onText : String → ℕ × ℕ
+onText s = saysOf (check (bytes s) 0)
+
+abbrev onPair : String → ℕ × ℕ
+onPair s = saysOf (provable (bytes s) 60000 1000)
+
+-- XOR of two inputs from three ANDs, and by one gate
+abbrev threeAnds : List ℕ
+threeAnds = bytes "0102000301\n0200020004\n0200030005\n0200070009\n04000A\n"
+
+abbrev oneXor : List ℕ
+oneXor = bytes "0102000101\n0300020004\n040006\n"
+
+record Samples : Type 0 where
+  -- the report frame: accepted, line 0, 4 steps, 13 clauses
+  P1 : program (lists ++ proof) ≡ bytes "21000000000004000D\n"
+  -- without the last proof line
+  P2 : program (lists ++ bytes "11000500020002\n11000400080002\n11000A000B0001\n") ≡ bytes "210F00000000000000\n"
+  -- first step with variable 1
+  P3 : onLines "11000500020001\n" ≡ (10, 6)
+  -- first step naming clause 10; clause 9 exists
+  P4 : onLines "11000A00020002\n" ≡ (9, 6)
+  P4-exists : onLines "11000900020002\n" ≡ (10, 6)
+  -- (v, ¬v, c) with (¬v, d) on v gives (¬v, c, d), for v, c, d = 3, 5, 6
+  P5 : resolvent 3 (6 ∷ 7 ∷ 10 ∷ []) (7 ∷ 12 ∷ []) ≡ 7 ∷ 10 ∷ 12 ∷ []
+  -- 104 store numbers suffice, 72 get past the miter
+  P6-suffice : saysOf (check (lists ++ proof) 104) ≡ (0, 0)
+  P6-short : saysOf (check (lists ++ proof) 103) ≡ (14, 9)
+  P6-past : saysOf (check (lists ++ proof) 72) ≡ (14, 6)
+  P6-miter : saysOf (check (lists ++ proof) 71) ≡ (8, 0)
+  -- 420 proof bytes suffice for the engine
+  P7-suffice : saysOf (provable lists 420 1000) ≡ (0, 0)
+  P7-short : saysOf (provable lists 419 1000) ≡ (16, 0)
+  -- a header that passes leaves the next frame due
+  P8-inputs : onText "0140000001\n" ≡ (4, 2)
+  P8-inputs-over : onText "0141000001\n" ≡ (5, 1)
+  P8-outputs : onText "0101000040\n" ≡ (4, 2)
+  P8-outputs-over : onText "0101000041\n" ≡ (5, 1)
+  P8-no-outputs : onText "0101000000\n" ≡ (5, 1)
+  P8-gates : onText "0101040001\n" ≡ (4, 2)
+  P8-gates-over : onText "0101040101\n" ≡ (5, 1)
+  -- one input, first gate: literal 3, then 4
+  P9 : onText "0101000101\n0200030003\n" ≡ (4, 3)
+  P9-over : onText "0101000101\n0200040002\n" ≡ (7, 2)
+  P9-over-second : onText "0101000101\n0200020004\n" ≡ (7, 2)
+  P10 : onText "" ≡ (4, 1)
+  -- AND of a, b against AND of b, a
+  P11 : onPair "0102000101\n0200020004\n040006\n0102000101\n0200040002\n040006\n" ≡ (0, 0)
+  P11-xor : foldXor (form true (leaf 1)) (form false (leaf 2)) ≡ flip true (foldXor (form false (leaf 1)) (form false (leaf 2)))
+  -- 18 at output 1, though they agree on the four patterns of two inputs
+  P12 : saysOf (provable (threeAnds ++ oneXor) 60000 1000) ≡ (18, 1)
+  P12-agree-0 : evaluate threeAnds 0 6 ≡ evaluate oneXor 0 4
+  P12-agree-1 : evaluate threeAnds 1 6 ≡ evaluate oneXor 1 4
+  P12-agree-2 : evaluate threeAnds 2 6 ≡ evaluate oneXor 2 4
+  P12-agree-3 : evaluate threeAnds 3 6 ≡ evaluate oneXor 3 4
+  P12-xor-of-1 : evaluate oneXor 1 4 ≡ ok 1
+
+samples : Samples
+unfolding definitions
+samples = record {
+  P1 = refl;
+  P2 = refl;
+  P3 = refl;
+  P4 = refl;
+  P4-exists = refl;
+  P5 = refl;
+  P6-suffice = refl;
+  P6-short = refl;
+  P6-past = refl;
+  P6-miter = refl;
+  P7-suffice = refl;
+  P7-short = refl;
+  P8-inputs = refl;
+  P8-inputs-over = refl;
+  P8-outputs = refl;
+  P8-outputs-over = refl;
+  P8-no-outputs = refl;
+  P8-gates = refl;
+  P8-gates-over = refl;
+  P9 = refl;
+  P9-over = refl;
+  P9-over-second = refl;
+  P10 = refl;
+  P11 = refl;
+  P11-xor = refl;
+  P12 = refl;
+  P12-agree-0 = refl;
+  P12-agree-1 = refl;
+  P12-agree-2 = refl;
+  P12-agree-3 = refl;
+  P12-xor-of-1 = refl;
+}

@@ -1,0 +1,19 @@
+//! What the comparisons share: random numbers, cases made from them, replies by the reference, and
+//! counts of what the cases reached.
+
+pub mod calls;
+pub mod expected;
+pub mod random;
+pub mod tally;
+pub mod texts;
+
+/// Bytes in hexadecimal. Of a long text only both ends; the seed and the case's number give all.
+pub fn hex(bytes: &[u8]) -> String {
+    const SHOWN: usize = 128;
+    let digits = |bytes: &[u8]| bytes.iter().map(|b| format!("{b:02X}")).collect::<String>();
+    if bytes.len() <= 2 * SHOWN {
+        return digits(bytes);
+    }
+    let (head, tail) = (&bytes[..SHOWN], &bytes[bytes.len() - SHOWN..]);
+    format!("{}...{}", digits(head), digits(tail))
+}

@@ -1,0 +1,33 @@
+//! Counts of what the cases of a test reached. A comparison whose cases miss an outcome says
+//! nothing about it, so each test names the outcomes that it has to reach, and no other may occur.
+
+use std::collections::BTreeMap;
+
+#[derive(Default)]
+pub struct Tally {
+    cases: u64,
+    outcomes: BTreeMap<String, u64>,
+}
+
+impl Tally {
+    pub fn count(&mut self, outcome: String) {
+        self.cases += 1;
+        *self.outcomes.entry(outcome).or_default() += 1;
+    }
+
+    /// Prints the counts, and fails unless there were enough cases, each of these outcomes was
+    /// reached, and no other was.
+    pub fn finish(&self, test: &str, at_least: u64, outcomes: &[String]) {
+        eprintln!("{test}: {} cases: {:?}", self.cases, self.outcomes);
+        assert!(
+            self.cases >= at_least,
+            "{test}: fewer than {at_least} cases"
+        );
+        for outcome in outcomes {
+            assert!(self.outcomes.contains_key(outcome), "{test}: no {outcome}");
+        }
+        for outcome in self.outcomes.keys() {
+            assert!(outcomes.contains(outcome), "{test}: unexpected {outcome}");
+        }
+    }
+}

@@ -1,0 +1,99 @@
+//! A text cut into lines. Renders document 01, 'Lines on the wire': "One frame a line: digits 0-9
+//! and A-F, then the byte 10 (LF), the last line included."
+//!
+//! The bytes of a line are tested over the whole line before anything is made of it, so refusal 2
+//! comes before kind and length are looked at.
+
+use crate::refusal::Refusal;
+
+const LF: u8 = 10;
+
+/// One line of a text, without its LF.
+#[derive(Debug, PartialEq, Eq)]
+pub(crate) struct Line {
+    /// Its place in the text, from 1.
+    pub(crate) number: u64,
+    /// The value of each digit, 0 to 15.
+    pub(crate) digits: Vec<u8>,
+}
+
+/// The lines of a text from the top. "Reading goes from the top and the first fault ends it":
+/// behind a refusal comes nothing.
+pub(crate) struct Lines<'text> {
+    unread: &'text [u8],
+    taken: u64,
+}
+
+impl<'text> Lines<'text> {
+    pub(crate) fn of(text: &'text [u8]) -> Self {
+        Self {
+            unread: text,
+            taken: 0,
+        }
+    }
+}
+
+impl Iterator for Lines<'_> {
+    type Item = Result<Line, Refusal>;
+
+    fn next(&mut self) -> Option<Self::Item> {
+        if self.unread.is_empty() {
+            return None;
+        }
+        self.taken += 1;
+        let number = self.taken;
+        let Some((digits, unread)) = take_digits(self.unread) else {
+            self.unread = &[];
+            return Some(Err(Refusal::line_bytes(number)));
+        };
+        self.unread = unread;
+        Some(Ok(Line { number, digits }))
+    }
+}
+
+/// The digits up to the first LF, and what stands behind it. None if there is no LF, or if another
+/// byte than a digit stands before it.
+fn take_digits(text: &[u8]) -> Option<(Vec<u8>, &[u8])> {
+    let end = text.iter().position(|&byte| byte == LF)?;
+    let digits = text[..end].iter().map(|&byte| digit(byte));
+    Some((digits.collect::<Option<_>>()?, &text[end + 1..]))
+}
+
+/// The value of a digit: 0-9 and A-F, and no small letter.
+fn digit(byte: u8) -> Option<u8> {
+    match byte {
+        b'0'..=b'9' => Some(byte - b'0'),
+        b'A'..=b'F' => Some(byte - b'A' + 10),
+        _ => None,
+    }
+}
+
+#[cfg(test)]
+mod tests {
+    use super::*;
+
+    #[test]
+    fn exactly_sixteen_bytes_are_digits() {
+        let digits: Vec<u8> = (0..=255).filter(|&byte| digit(byte).is_some()).collect();
+        assert_eq!(digits, b"0123456789ABCDEF");
+        let values: Vec<u8> = digits.iter().filter_map(|&byte| digit(byte)).collect();
+        assert_eq!(values, (0..16).collect::<Vec<u8>>());
+    }
+
+    #[test]
+    fn lines_are_counted_and_the_first_fault_ends_them() {
+        let mut lines = Lines::of(b"0A\n\nF\nx\n00\n");
+        let expected: [(u64, &[u8]); 3] = [(1, &[0, 10]), (2, &[]), (3, &[15])];
+        for (number, digits) in expected {
+            let digits = digits.to_vec();
+            assert_eq!(lines.next(), Some(Ok(Line { number, digits })));
+        }
+        assert_eq!(lines.next(), Some(Err(Refusal::line_bytes(4))));
+        assert_eq!(lines.next(), None);
+    }
+
+    #[test]
+    fn no_bytes_are_no_line() {
+        assert_eq!(Lines::of(b"").next(), None);
+    }
+}

@@ -1,0 +1,45 @@
+//! Refusals. Renders document 01, 'Refusals by the place of the check': "A refusal gives number
+//! and line, and all other results 0."
+
+use std::error::Error;
+use std::fmt;
+
+/// A fault's number in the paper's table, and its line. "Lines count from 1 over the whole text";
+/// line 0 belongs to a refusal tied to no line.
+#[derive(Clone, Copy, Debug, PartialEq, Eq)]
+pub struct Refusal {
+    /// The paper's number.
+    pub number: u8,
+    /// The line, or 0.
+    pub line: u64,
+}
+
+impl Refusal {
+    /// Place 'line's bytes': "a byte other than a digit above or LF, or the text ends within a
+    /// line".
+    pub(crate) fn line_bytes(line: u64) -> Self {
+        Self { number: 2, line }
+    }
+
+    /// Place 'frame': "kind not due here, or length wrong for it; an empty line".
+    pub(crate) fn frame(line: u64) -> Self {
+        Self { number: 3, line }
+    }
+
+    /// Place 'frame writer': "buffer shorter than the line, or a line number above FFFFFF; line
+    /// 0".
+    pub(crate) fn writer() -> Self {
+        Self {
+            number: 16,
+            line: 0,
+        }
+    }
+}
+
+impl fmt::Display for Refusal {
+    fn fmt(&self, out: &mut fmt::Formatter<'_>) -> fmt::Result {
+        write!(out, "refusal {} at line {}", self.number, self.line)
+    }
+}
+
+impl Error for Refusal {}
