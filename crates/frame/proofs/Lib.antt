@@ -3,3 +3,4 @@ pub mod LineLaws
 pub mod DecodeLaws
 pub mod LoneLaws
 pub mod WriteLaws
+pub mod RoundTrip

@@ -16,6 +16,8 @@ use Rattle.model.specs.Lines.{digitOf, lineFeed}
 use Rattle.model.specs.Frames.{Frame, widths, total, hex, hexFields, lineOf, statedLine, writeFrame, writtenFrame, oneByte, twoBytes}
 use types.Run.{OneOf, miss}
 use denote.Enum.Declared.{tagOf}
+use Rattle.laws.specs.Digits.{length-hex}
+use Rattle.laws.specs.RoundTrip.{line-length}
 use Rattle.frame.proofs.Frame as frame-tag
 use Rattle.frame.specs.declared.Frame as frame-type
 use Rattle.frame.specs.declared.Frame.the-variants.{Header, Gate, Output, Resolve, Extend, Report}
@@ -37,11 +39,6 @@ set-first l i k (x ∷ xs) d h =
     rw (set-comm l k i d x (λ e. omega arith)) (set-first (set l i x) (suc i) k xs d (omega arith))
 
 -- ---- digits
-
-pub length-hex : (w n : ℕ) → length (hex w n) ≡ w
-unfolding hex
-length-hex zero n = refl
-length-hex (suc w) n = rw (length-append, length-hex w (n / 16)) (omega arith)
 
 -- the last of the digits is stored, and the others are left
 pub store-digit : (out : List ℕ) (at left n d : ℕ) → d ≡ digitOf (n % 16) → sets (set out (at + left) d) at (hex left (n / 16)) ≡ sets out at (hex (suc left) n)
@@ -83,16 +80,9 @@ no-line (Extend And x y) k = refl
 no-line (Extend Xor x y) k = refl
 no-line (Report r n s c) k = absurd (miss (0 ∷ 1 ∷ 2 ∷ 3 ∷ 4 ∷ []) 5 tt k)
 
-length-fields : (ws vs : List ℕ) → length vs ≡ length ws → length (hexFields ws vs) ≡ total ws
-unfolding hexFields total
-length-fields [] vs e = refl
-length-fields (w ∷ ws) [] e = absurd (omega arith)
-length-fields (w ∷ ws) (v ∷ vs) e = rw (length-append, length-hex w v, length-fields ws vs (omega arith))
-
--- a line's length is fixed by the widths of its kind, ws
-pub length-line : (f : Frame) (ws : List ℕ) → ws ≡ widths (f .kind) → length (f .fields) ≡ length ws → length (lineOf f) ≡ oneByte + total ws + 1
-unfolding lineOf
-length-line f ws e n = simp (length-append, length-hex, ← e, length-fields ws (f .fields) n) (omega arith)
+-- a line's length, where the widths of its kind are known to be ws
+pub line-by-widths : (f : Frame) (ws : List ℕ) → ws ≡ widths (f .kind) → length (f .fields) ≡ length ws → length (lineOf f) ≡ oneByte + total ws + 1
+line-by-widths f ws e n = rw e (line-length f (n ∙ ap length e))
 
 -- ---- fields in turn
 
@@ -140,7 +130,7 @@ module _ (w : Fields) (f : Frame) (s : Spells w f) (n : length (w .values) ≡ 4
   value-count = length-take-le (w .count) (w .values) (omega (arith, s .room))
 
   pub line-long : length (lineOf f) ≡ oneByte + total (take (w .count) (w .widths)) + 1
-  line-long = length-line f (take (w .count) (w .widths)) (s .widths) (sym (ap length (s .values)) ∙ value-count ∙ sym width-count)
+  line-long = line-by-widths f (take (w .count) (w .widths)) (s .widths) (sym (ap length (s .values)) ∙ value-count ∙ sym width-count)
 
   -- the kind is stored, and then the fields
   pub line-stored : (out : List ℕ) (at : ℕ)

@@ -182,12 +182,13 @@ pub fn write_line(frame: Frame, out: &mut [u8], at: usize) -> usize
     p + 1
 }
 
+// Zeros everywhere.
 pub fn clear(out: &mut [u8])
     ensures { λ _. ⌜ now (out .exit) ≡ zeros (length (now (out .entry))) ⌝ }
 {
-    let mut i: usize = 0;
-    while i < out.len() {
-        out[i] = 0;
-        i += 1;
+    let mut at: usize = 0;
+    while at < out.len() {
+        out[at] = 0;
+        at += 1;
     }
 }

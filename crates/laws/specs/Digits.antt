@@ -1,4 +1,4 @@
--- Digits, at a board. A digit is a number below 16, and one byte spells it: `digitOf` gives the byte, `digitValue` the digit again, and only
+-- Digits. A digit is a number below 16, and one byte spells it: `digitOf` gives the byte, `digitValue` the digit again, and only
 -- the 16 bytes that `digitOf` gives are digits in a text. So a line without fault and the bytes before its LF say the same, and each gives
 -- the other. In the same way w digits and a number below 16 ^ w say the same: its last digit is the remainder by 16, those before it are
 -- the digits of the quotient, and 16 * n + d, with d below 16, has the remainder d and the quotient n.
@@ -8,7 +8,7 @@ use mathlib.Core.Bool.{Bool, true, false, _&&_, _||_, cond, true≢false}
 use mathlib.Core.List.{List, [], _∷_, _++_, map, append-nil, map-append}
 use native.Mathlib.Omega.{arith}
 use native.Mathlib.Nat.{add-zero, pow-suc}
-use lib.ListN.{length, length-append}
+use lib.ListN.{length, length-append, length-map}
 use lib.Seq.{append-snoc}
 use lib.Dec.{eqb, leb, ltb}
 use borrow.Author.Tests.{eqb-true, ne-eqb, le-leb, lt-leb, leb-true, lt-ltb, le-ltb, ltb-true, ltb-false}
@@ -158,6 +158,9 @@ pub length-digitsOf : (w n : ℕ) → length (digitsOf w n) ≡ w
 unfolding digitsOf
 length-digitsOf zero n = refl
 length-digitsOf (suc w) n = rw (length-append, length-digitsOf w (n / 16)) (omega arith)
+
+pub length-hex : (w n : ℕ) → length (hex w n) ≡ w
+length-hex w n = rw (hex-digits w n, length-map, length-digitsOf w n)
 
 number-snoc : (k : ℕ) (ds : List ℕ) (d : ℕ) → number k (ds ++ (d ∷ [])) ≡ 16 * number k ds + d
 unfolding number

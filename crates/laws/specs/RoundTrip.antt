@@ -1,10 +1,10 @@
--- Frames written and read, at a board. A line can hold a frame if its kind is one of the table and its fields are one value for each width
+-- Frames written and read. A line can hold a frame if its kind is one of the table and its fields are one value for each width
 -- w, below 16 ^ w: such a frame is proper. Its line has the two digits of the kind and then the w digits of each field; cut at the same
 -- widths they give kind and fields again, so what is written is read. The other way round, digits that are read as a frame are as many as
 -- the widths of its kind ask for, each field is the number of its w digits, and that number is below 16 ^ w and has just those digits. So
 -- what is read is proper, and written again it is the same bytes: a frame has one line, and a line one frame.
 use Prim.Native.Nat.{ℕ, zero, suc, _+_, _^_, _≤_, _<_}
-use mathlib.Core.Path.{_≡_, refl, sym, _∙_}
+use mathlib.Core.Path.{_≡_, refl, sym, ap, _∙_}
 use mathlib.Core.Bool.{Bool, true, false, _&&_, true≢false}
 use mathlib.Core.List.{List, [], _∷_, _++_, map, append-nil, map-append}
 use native.Mathlib.Omega.{arith}
@@ -15,11 +15,12 @@ use borrow.Author.Tests.{eqb-true, eq-eqb, ne-eqb, le-leb, ltb-true, ltb-false}
 use Rattle.model.specs.Limits.{highestLine}
 use Rattle.model.specs.Answers.{guard, filled}
 use Rattle.model.specs.Answers.Answer.{ok}
-use Rattle.model.specs.Lines.{Line, lineFeed, digitOf, prepend, lines}
+use Rattle.model.specs.Lines.{Line, lineFeed, digitOf, lines}
 use Rattle.model.specs.Lines.Line.{digits, faulty}
 use Rattle.model.specs.Frames.{Frame, headerKind, andKind, xorKind, outputKind, resolveKind, extendAndKind, extendXorKind, reportKind, oneByte, widths, isKind, number, total, split, decodeAs, decode, frameAt, endAt, loneOf, loneLine, hexFields, lineOf, statedLine, writeFrame, writtenFrame}
 use Rattle.laws.specs.Bools.{both, by-cond}
 use Rattle.laws.specs.Answers.{ok-injective, refused-not-ok, guard-ok, bind-ok}
+use Rattle.laws.specs.Lines.{prepend-some}
 use Rattle.laws.specs.Digits.{AllDigits, line-of-bytes, bytes-of-line, digitsOf, hex-digits, all-append, all-digitsOf, length-digitsOf, number-digitsOf, digits-number}
 
 -- ---- fields
@@ -49,12 +50,17 @@ all-fieldDigits [] vs = tt
 all-fieldDigits (w ∷ ws) [] = tt
 all-fieldDigits (w ∷ ws) (v ∷ vs) = all-append (digitsOf w v) (fieldDigits ws vs) (all-digitsOf w v) (all-fieldDigits ws vs)
 
-length-fieldDigits : (ws vs : List ℕ) → Fits ws vs → length (fieldDigits ws vs) ≡ total ws
+length-fieldDigits : (ws vs : List ℕ) → length vs ≡ length ws → length (fieldDigits ws vs) ≡ total ws
 unfolding total
-length-fieldDigits [] [] h = refl
-length-fieldDigits [] (v ∷ vs) h = absurd h
-length-fieldDigits (w ∷ ws) [] h = absurd h
-length-fieldDigits (w ∷ ws) (v ∷ vs) h = rw (length-append, length-digitsOf w v, length-fieldDigits ws vs (h .1))
+length-fieldDigits [] vs e = refl
+length-fieldDigits (w ∷ ws) [] e = absurd (omega arith)
+length-fieldDigits (w ∷ ws) (v ∷ vs) e = rw (length-append, length-digitsOf w v, length-fieldDigits ws vs (omega arith))
+
+fits-length : (ws vs : List ℕ) → Fits ws vs → length vs ≡ length ws
+fits-length [] [] h = refl
+fits-length [] (v ∷ vs) h = absurd h
+fits-length (w ∷ ws) [] h = absurd h
+fits-length (w ∷ ws) (v ∷ vs) h = ap suc (fits-length ws vs (h .1))
 
 -- values that fit are split off again
 split-fieldDigits : (ws vs : List ℕ) → Fits ws vs → split ws (fieldDigits ws vs) ≡ vs
@@ -146,7 +152,7 @@ decode-frame f p line =
     let first : List ℕ = digitsOf oneByte (f .kind) in
     let behind : List ℕ = fieldDigits ws (f .fields) in
     let two : length first ≡ oneByte = length-digitsOf oneByte (f .kind) in
-    let l : length (first ++ behind) ≡ oneByte + total ws = rw (length-append, two, length-fieldDigits ws (f .fields) (p .fit)) in
+    let l : length (first ++ behind) ≡ oneByte + total ws = rw (length-append, two, length-fieldDigits ws (f .fields) (fits-length ws (f .fields) (p .fit))) in
     rw (
       take-at first behind oneByte two,
       number-digitsOf oneByte (f .kind) (kind-byte (f .kind) (p .known)),
@@ -208,19 +214,14 @@ written-read t l ls line f first read = line-read t l ls line f first read .1
 pub read-proper : (t : List ℕ) (l : Line) (ls : List Line) (line : ℕ) (f : Frame) → lines t ≡ l ∷ ls → frameAt l line ≡ ok f → Proper f
 read-proper t l ls line f first read = line-read t l ls line f first read .0
 
-prepend-not-nil : (c : Bool) (b : ℕ) (ls : List Line) → prepend c b ls ≡ [] → ⊥
-prepend-not-nil true b ls e = let z : _≡_ {A = ℕ} 0 1 = cc in omega arith
-prepend-not-nil false b [] e = let z : _≡_ {A = ℕ} 0 1 = cc in omega arith
-prepend-not-nil false b (l ∷ ls) e = let z : _≡_ {A = ℕ} 0 1 = cc in omega arith
-
 -- only the empty text has no lines
 no-lines : (t : List ℕ) → lines t ≡ [] → t ≡ []
 unfolding lines
 no-lines [] e = refl
-no-lines (b ∷ t) e = absurd (prepend-not-nil (eqb b lineFeed) b (lines t) e)
+no-lines (b ∷ t) e = absurd (omega (arith, prepend-some (eqb b lineFeed) b (lines t), ap length e))
 
 -- no line is behind an end
-end-nil : (ls : List Line) (line : ℕ) {u : Unit {0}} → endAt ls line ≡ ok u → ls ≡ []
+pub end-nil : (ls : List Line) (line : ℕ) {u : Unit {0}} → endAt ls line ≡ ok u → ls ≡ []
 unfolding endAt
 end-nil [] line e = refl
 end-nil (l ∷ ls) line e = absurd (refused-not-ok (bind-ok (frameAt l line) e .2))
@@ -253,16 +254,16 @@ lone-proper t f e = lone-both t f e .0
 
 -- ---- through the buffer
 
--- The line of a proper frame: the digits of its kind and of its fields, and the LF.
-pub line-length : (f : Frame) → Proper f → length (lineOf f) ≡ oneByte + total (widths (f .kind)) + 1
-line-length f p =
+-- A line's length is that of its kind, its fields and the LF, if there is a field for each width.
+pub line-length : (f : Frame) → length (f .fields) ≡ length (widths (f .kind)) → length (lineOf f) ≡ oneByte + total (widths (f .kind)) + 1
+line-length f n =
     rw (
       lineOf-digits f,
       length-append,
       length-map,
       length-append,
       length-digitsOf oneByte (f .kind),
-      length-fieldDigits (widths (f .kind)) (f .fields) (p .fit),
+      length-fieldDigits (widths (f .kind)) (f .fields) n,
     )
 
 -- A proper frame that is written into a buffer is read back from it: from the bytes that the answer counts.

@@ -1,4 +1,4 @@
--- The invariant: i zeros, and then what the buffer held. The measure is what is left of it.
+-- The invariant: as many zeros as places passed, and then what the buffer held. The measure is what is left of it.
 use native.Mathlib.Omega.{arith}
 use borrow.Author.Needs.{needs}
 use borrow.Author.Fill.{fill-none, fill-more}
@@ -14,10 +14,10 @@ use Rattle.frame.proofs.fields.clear.Reads as reads
 use Rattle.frame.proofs.fields.clear.Lts as lts
 
 abbrev Inv-loop : tie.InvT-loop
-Inv-loop out₀ i₀ out i = (i ≤ length out₀) × (length out ≡ length out₀) × (out ≡ zeros i ++ drop i out₀)
+Inv-loop out₀ at₀ out at = (at ≤ length out₀) × (length out ≡ length out₀) × (out ≡ zeros at ++ drop at out₀)
 
 abbrev μ-loop : tie.MeasureT-loop
-μ-loop out₀ i₀ out i = length out₀ - i
+μ-loop out₀ at₀ out at = length out₀ - at
 
 loop-holds : tie.Need-loop-holds Inv-loop μ-loop
 loop-holds c = (omega arith, refl, fill-none _ 0)
@@ -25,8 +25,8 @@ loop-holds c = (omega arith, refl, fill-none _ 0)
 slice-write-out : tie.Need-slice-write-out Inv-loop μ-loop
 slice-write-out c = search needs
 
-add-i : tie.Need-add-i Inv-loop μ-loop
-add-i c = search needs
+add-at : tie.Need-add-at Inv-loop μ-loop
+add-at c = search needs
 
 loop-less : tie.Need-loop-less Inv-loop μ-loop
 loop-less c = search needs
@@ -35,7 +35,7 @@ loop-again : tie.Need-loop-again Inv-loop μ-loop
 loop-again c =
     let l = c .before .loop in
     let o = now (c .before .before .args .out) in
-    (omega arith, simp length-set (l .inv .1), rw (l .inv .2) (fill-more (l .i) 0 o (omega arith)))
+    (omega arith, simp length-set (l .inv .1), rw (l .inv .2) (fill-more (l .at) 0 o (omega arith)))
 
 same-length : tie.Need-same-length Inv-loop μ-loop
 same-length c = c .before .loop .inv .1
@@ -44,7 +44,7 @@ returns : tie.Need-returns Inv-loop μ-loop
 returns c =
     let l = c .before .loop in
     let o = now (c .before .before .args .out) in
-    let n : l .i ≡ length o = omega arith in
+    let n : l .at ≡ length o = omega arith in
     let e : l .out ≡ zeros (length o) ++ [] = rw (n, drop-of-length-le o {i = length o} (omega arith)) at (l .inv .2) in
     e ∙ append-nil _
 
@@ -56,7 +56,7 @@ clear-spec =
     μ-loop
     loop-holds
     slice-write-out
-    add-i
+    add-at
     loop-less
     loop-again
     same-length
