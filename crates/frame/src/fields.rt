@@ -12,6 +12,9 @@ ghost use Rattle.model.specs.Lines.{digitOf};
 ghost use Rattle.model.specs.Frames.{hex, lineOf, statedLine};
 ghost use Rattle.frame.specs.Frames.{gateKind, extendKind, frameOf, Spells};
 
+// The highest line number that a report can state, in three bytes.
+pub const HIGHEST_LINE: usize = 0xFFFFFF;
+
 // The kind, and count fields with the digits that each has on the line.
 pub struct Fields {
     pub kind: u8,
@@ -134,7 +137,7 @@ pub fn line_number_fits(frame: Frame) -> bool
     else {
         return true;
     };
-    line <= 0xFFFFFF
+    line <= HIGHEST_LINE
 }
 
 pub fn digit_of(d: u8) -> u8

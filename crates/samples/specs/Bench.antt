@@ -47,6 +47,9 @@ record Samples : Type 0 where
   P1 : program (lists ++ proof) ≡ bytes "21000000000004000D\n"
   -- without the last proof line
   P2 : program (lists ++ bytes "11000500020002\n11000400080002\n11000A000B0001\n") ≡ bytes "210F00000000000000\n"
+  -- an empty clause counts only as the last step, and lines behind it must be valid
+  P2-not-last : saysOf (check (lists ++ proof ++ bytes "11000500020002\n") store) ≡ (15, 0)
+  P2-faulty-behind : saysOf (check (lists ++ proof ++ bytes "11000500020001\n") store) ≡ (10, 10)
   -- first step with variable 1
   P3 : onLines "11000500020001\n" ≡ (10, 6)
   -- first step naming clause 10; clause 9 exists
@@ -91,6 +94,8 @@ unfolding definitions
 samples = record {
   P1 = refl;
   P2 = refl;
+  P2-not-last = refl;
+  P2-faulty-behind = refl;
   P3 = refl;
   P4 = refl;
   P4-exists = refl;

@@ -5,15 +5,15 @@ use Prim.Native.String.{String}
 use mathlib.Core.Path.{_≡_, refl}
 use mathlib.Core.Bool.{true, false}
 use mathlib.Core.List.{List, [], _∷_, _++_}
-use lib.ListN.{length}
+use lib.ListN.{length, drop}
 use Rattle.model.specs.Answers.{Answer, guard, zeros}
 use Rattle.model.specs.Answers.Answer.{ok, refused}
 use Rattle.model.specs.Frames.{Frame, loneLine, lineOf, writeFrame, writtenFrame}
 use Rattle.model.specs.Nets.{Gate}
-use Rattle.model.specs.Nets.Op.{and, xor}
+use Rattle.model.specs.Nets.Op.{and, xor, or}
 use Rattle.model.specs.Lists.{readOne, readLists}
 use Rattle.model.specs.Evaluator.{evaluate}
-use Rattle.model.specs.Clauses.{Clause}
+use Rattle.model.specs.Clauses.{Clause, gateClauses}
 use Rattle.model.specs.Steps.{State, step}
 use Rattle.model.specs.Steps.Step.{resolve, extend}
 use Rattle.model.specs.Checker.{check, reportOf, program, storeAfter}
@@ -145,6 +145,9 @@ abbrev tautology : List Clause
 tautology = (2 ∷ 3 ∷ []) ∷ []
 
 record Steps : Type 0 where
+  clauses-are-sets : gateClauses 2 (gate 2 2) ≡ (2 ∷ 5 ∷ []) ∷ (2 ∷ 5 ∷ []) ∷ (3 ∷ 4 ∷ []) ∷ []
+  xor-order : gateClauses 3 (record { op = xor; x = 2; y = 4 }) ≡ (2 ∷ 4 ∷ 7 ∷ []) ∷ (2 ∷ 5 ∷ 6 ∷ []) ∷ (3 ∷ 4 ∷ 6 ∷ []) ∷ (3 ∷ 5 ∷ 7 ∷ []) ∷ []
+  w-order : gateClauses 5 (record { op = or; x = 6; y = 8 }) ≡ (7 ∷ 10 ∷ []) ∷ (9 ∷ 10 ∷ []) ∷ (6 ∷ 8 ∷ 11 ∷ []) ∷ []
   eight-literals : saysOf (step 9 1 (after eight 20) (resolve 1 2 1)) ≡ (0, 0)
   nine-literals : saysOf (step 9 1 (after nine 20) (resolve 1 2 1)) ≡ (11, 1)
   clause-zero : saysOf (step 9 1 (after eight 20) (resolve 0 2 1)) ≡ (9, 1)
@@ -164,6 +167,9 @@ record Steps : Type 0 where
 step-samples : Steps
 unfolding definitions
 step-samples = record {
+  clauses-are-sets = refl;
+  xor-order = refl;
+  w-order = refl;
   eight-literals = refl;
   nine-literals = refl;
   clause-zero = refl;
@@ -190,6 +196,9 @@ wires = bytes "0102000003\n040005\n040002\n040001\n"
 abbrev andPair : List ℕ
 andPair = bytes "0101000101\n0200020002\n040004\n0101000001\n040002\n"
 
+abbrev andProof : List ℕ
+andProof = bytes "11000500020002\n11000400080002\n11000A000B0001\n110009000C0003\n"
+
 abbrev output : Frame
 output = record { kind = 4; fields = 171 ∷ [] }
 
@@ -210,6 +219,7 @@ record Lent : Type 0 where
   not-written : writtenFrame output 6 ≡ zeros 6
   highest-line : writeFrame (report 16777215) 19 ≡ ok 19
   above-highest-line : writeFrame (report 16777216) 19 ≡ refused 16 0
+  store-after-acceptance : drop 88 (storeAfter 105 (check (andPair ++ andProof) 105)) ≡ 8 ∷ zeros 16
   store-after-refusal : storeAfter 9 (check [] 9) ≡ zeros 9
 
 lent-samples : Lent
@@ -228,5 +238,6 @@ lent-samples = record {
   not-written = refl;
   highest-line = refl;
   above-highest-line = refl;
+  store-after-acceptance = refl;
   store-after-refusal = refl;
 }
