@@ -4,3 +4,4 @@ pub mod DecodeLaws
 pub mod LoneLaws
 pub mod WriteLaws
 pub mod RoundTrip
+pub mod FirstLaws

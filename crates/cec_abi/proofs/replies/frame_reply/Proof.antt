@@ -1,0 +1,36 @@
+-- Each arm knows its case of the answer.
+use borrow.Author.Needs.{needs}
+use Rattle.cec_abi.proofs.replies.frame_reply.Statement.{statement}
+use Rattle.cec_abi.proofs.replies.frame_reply.Tie as tie
+use Rattle.cec_abi.proofs.replies.frame_reply.Reads as reads
+use Rattle.cec_abi.proofs.replies.frame_reply.Lts as lts
+use Rattle.cec_abi.proofs.replies.frame_numbers.Reads as frame-numbers-reads
+
+enum-known-answer : tie.Need-enum-known-answer
+enum-known-answer c = search needs
+
+frame-numbers-requires : tie.Need-frame-numbers-requires
+frame-numbers-requires c κs = search needs
+
+enum-known-answer-2 : tie.Need-enum-known-answer-2
+enum-known-answer-2 c = search needs
+
+cast-t6 : tie.Need-cast-t6
+cast-t6 c = search needs
+
+returns : tie.Need-returns
+returns c = rw (c .before .before .answer .given .1) (c .frame-numbers .ensures)
+
+returns-2 : tie.Need-returns-2
+returns-2 c = rw (c .before .answer2 .given .1)
+
+pub frame-reply-spec : {M : Type 1} → statement M
+frame-reply-spec =
+    tie.close
+    (tie.spec
+    enum-known-answer
+    frame-numbers-requires
+    enum-known-answer-2
+    cast-t6
+    returns
+    returns-2)

@@ -1,0 +1,47 @@
+-- Each arm knows its case of the answer: a frame is written, and a refusal is handed on with the buffer cleared.
+use mathlib.Core.Path.{refl}
+use borrow.Author.Needs.{needs}
+use Rattle.cec_abi.proofs.write_answer.Statement.{statement}
+use Rattle.cec_abi.proofs.write_answer.Tie as tie
+use Rattle.cec_abi.proofs.write_answer.Reads as reads
+use Rattle.cec_abi.proofs.write_answer.Lts as lts
+use Rattle.frame.proofs.fields.clear.Reads as clear-reads
+use Rattle.frame.proofs.write_frame.Reads as write-frame-reads
+
+enum-known-answer : tie.Need-enum-known-answer
+enum-known-answer c = search needs
+
+write-frame-requires : tie.Need-write-frame-requires
+write-frame-requires c κs = search needs
+
+enum-known-answer-2 : tie.Need-enum-known-answer-2
+enum-known-answer-2 c = search needs
+
+clear-requires : tie.Need-clear-requires
+clear-requires c κs = search needs
+
+same-length : tie.Need-same-length
+same-length c = search needs
+
+returns : tie.Need-returns
+returns c = rw (c .before .before .before .before .before .answer .given .1) (c .before .before .write-frame .ensures)
+
+same-length-2 : tie.Need-same-length-2
+same-length-2 c = search needs
+
+returns-2 : tie.Need-returns-2
+returns-2 c =
+    rw (c .before .before .before .before .before .answer2 .given .1) (refl, c .before .before .clear .ensures)
+
+pub write-answer-spec : {M : Type 1} → statement M
+write-answer-spec =
+    tie.close
+    (tie.spec
+    enum-known-answer
+    write-frame-requires
+    enum-known-answer-2
+    clear-requires
+    same-length
+    returns
+    same-length-2
+    returns-2)
