@@ -14,3 +14,4 @@ pub mod MiterValues
 pub mod Reading
 pub mod Soundness
 pub mod Appending
+pub mod ListText

@@ -215,7 +215,7 @@ pub read-proper : (t : List ℕ) (l : Line) (ls : List Line) (line : ℕ) (f : F
 read-proper t l ls line f first read = line-read t l ls line f first read .0
 
 -- only the empty text has no lines
-no-lines : (t : List ℕ) → lines t ≡ [] → t ≡ []
+pub no-lines : (t : List ℕ) → lines t ≡ [] → t ≡ []
 unfolding lines
 no-lines [] e = refl
 no-lines (b ∷ t) e = absurd (omega (arith, prepend-some (eqb b lineFeed) b (lines t), ap length e))

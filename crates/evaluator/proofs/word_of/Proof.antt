@@ -1,0 +1,31 @@
+-- The inputs, the gates and the outputs in turn: each contract takes up where the last one ends.
+use borrow.Author.Needs.{needs}
+use Rattle.evaluator.proofs.word_of.Statement.{statement}
+use Rattle.evaluator.proofs.word_of.Tie as tie
+use Rattle.evaluator.proofs.word_of.Reads as reads
+use Rattle.evaluator.proofs.word_of.Lts as lts
+use Rattle.evaluator.proofs.nets.read_word.Reads as read-word-reads
+use Rattle.evaluator.proofs.nets.run_gates.Reads as run-gates-reads
+use Rattle.evaluator.proofs.nets.set_inputs.Reads as set-inputs-reads
+
+set-inputs-requires : tie.Need-set-inputs-requires
+set-inputs-requires c κs = search needs
+
+run-gates-requires : tie.Need-run-gates-requires
+run-gates-requires c κs = search needs
+
+read-word-requires : tie.Need-read-word-requires
+read-word-requires c κs = search needs
+
+same-length : tie.Need-same-length
+same-length c = search needs
+
+returns : tie.Need-returns
+returns c =
+    let a = c .before .before .before .before .before .before .before .before .before .before .before .before .args in
+    λ n s i g o. c .read-word .ensures n (a .pattern) s g o (c .before .before .before .before .run-gates .ensures n (a .pattern) s i g (c .before .before .before .before .before .before .before .before .set-inputs .ensures))
+
+pub word-of-spec : {M : Type 1} → statement M
+word-of-spec =
+    tie.close
+    (tie.spec set-inputs-requires run-gates-requires read-word-requires same-length returns)

@@ -1,0 +1,35 @@
+-- The values of nets as bytes, and the evaluator's answer.
+use Prim.Native.Nat.{ℕ, _+_, _≤_}
+use mathlib.Core.Path.{_≡_}
+use mathlib.Core.Bool.{Bool}
+use mathlib.Core.List.{List, map}
+use lib.ListN.{length, take}
+use Rattle.model.specs.Limits.{mostInputs, mostGates, mostOutputs}
+use Rattle.model.specs.Answers.{Answer}
+use Rattle.model.specs.Answers.Answer.{ok, refused}
+use Rattle.model.specs.Nets as model
+use Rattle.model.specs.Nets.{bit}
+use Rattle.frame.specs.declared.Op.{Op}
+use Rattle.frame.specs.declared.Op.the-variants.{And, Xor}
+use Rattle.netlist.specs.declared.Counts.{Counts}
+use Rattle.evaluator.specs.declared.Evaluated.{Evaluated}
+use Rattle.evaluator.specs.declared.Evaluated.the-variants.{Word, Refused}
+
+abbrev pub opOf : Op → model.Op
+opOf And = model.Op.and
+opOf Xor = model.Op.xor
+
+-- the bytes begin with the values vs, 1 for true and 0 for false
+abbrev pub Holds : List ℕ → List Bool → Type 0
+Holds values vs = take (length vs) values ≡ map bit vs
+
+abbrev pub evaluatedOf : Evaluated → Answer ℕ
+evaluatedOf (Word w) = ok w
+evaluatedOf (Refused r) = refused (r .number) (r .line)
+
+-- bytes enough for the nets of a list with these counts, which are within the limits
+pub record Enough (k : Counts) (bytes : ℕ) : Type 0 where
+  pub room : 1 + k .inputs + k .gates ≤ bytes
+  pub inputs : k .inputs ≤ mostInputs
+  pub gates : k .gates ≤ mostGates
+  pub outputs : k .outputs ≤ mostOutputs

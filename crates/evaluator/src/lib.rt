@@ -1,0 +1,60 @@
+// The evaluator: one list from a text, a pattern in, a word out (document 01, 'Lines on the wire').
+pub mod nets; // the values of nets, in a lent slice
+
+use frame::fields::clear;
+use netlist::Counts;
+use netlist::Part;
+use netlist::Refusal;
+use netlist::read_list;
+use nets::read_word;
+use nets::run_gates;
+use nets::set_inputs;
+ghost use mathlib.Core.Path.{_≡_};
+ghost use lib.ListN.{length};
+ghost use Rattle.model.specs.Answers.{zeros};
+ghost use Rattle.model.specs.Nets.{Netlist, eval};
+ghost use Rattle.model.specs.Evaluator as model;
+ghost use Rattle.laws.specs.ListText.{Stands};
+ghost use Rattle.evaluator.specs.Values.{evaluatedOf, Enough};
+
+pub enum Evaluated {
+    Word(u64),
+    Refused(Refusal),
+}
+
+// The word of the list that stands in the text, by the values of its nets.
+fn word_of(text: &[u8], counts: Counts, pattern: u64, work: &mut [u8]) -> u64
+    requires { ⌜ Enough counts (length (now work)) ⌝ }
+    ensures { λ r. ⌜ ((n : Netlist) → Stands (now (text .entry)) n → n .inputs ≡ counts .inputs → length (n .gates) ≡ counts .gates → length (n .outs) ≡ counts .outputs
+        → r ≡ eval n pattern) ⌝ }
+{
+    let inputs = counts.inputs;
+    let gates = counts.gates;
+    let outputs = counts.outputs;
+    set_inputs(work, inputs, pattern);
+    run_gates(text, work, inputs, gates);
+    read_word(text, work, gates, outputs)
+}
+
+// The word of a list on a pattern; or a refusal of the text, or 17. The working bytes end as zeros in every case.
+pub fn evaluate(text: &[u8], pattern: u64, work: &mut [u8]) -> Evaluated
+    ensures replies { λ r. ⌜ evaluatedOf r ≡ model.evaluate (now (text .entry)) pattern (length (now (work .entry))) ⌝ }
+    ensures leaves { λ r. ⌜ now (work .exit) ≡ zeros (length (now (work .entry))) ⌝ }
+{
+    let list = read_list(text);
+    let Part::Counted(counts, _) = list else {
+        clear(work);
+        return Evaluated::Refused(list.refusal());
+    };
+    let nets = 1 + counts.inputs + counts.gates;
+    if work.len() < nets {
+        clear(work);
+        return Evaluated::Refused(Refusal {
+            number: 17,
+            line: 0,
+        });
+    }
+    let word = word_of(text, counts, pattern, work);
+    clear(work);
+    Evaluated::Word(word)
+}

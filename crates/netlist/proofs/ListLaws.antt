@@ -1,0 +1,196 @@
+-- Lists from their parts: gates and outputs behind a header, a list behind another, and nothing behind. Each law puts what two readers say
+-- together to what the definition reads.
+use Prim.Native.Nat.{ℕ, suc, _+_, _≤_}
+use mathlib.Core.Path.{_≡_, refl, sym, ap, _∙_}
+use mathlib.Core.Bool.{Bool, true, false, _&&_, and-false}
+use mathlib.Core.List.{List}
+use native.Mathlib.Omega.{arith}
+use lib.ListN.{length, drop}
+use borrow.Author.Tests.{eq-eqb, ne-eqb}
+use Rattle.model.specs.Answers.{guard, bind}
+use Rattle.model.specs.Answers.Answer.{ok, refused}
+use Rattle.model.specs.Frames.{endAt}
+use Rattle.model.specs.Nets.{Netlist, size}
+use Rattle.model.specs.Lists.{ListRead, emptyList, readOutputs, readGates, readList, anyHeader, likeLeft, readBoth, readLists, readOne}
+use Rattle.frame.specs.declared.Cursor.{Cursor}
+use Rattle.frame.specs.Frames.{Inside}
+use Rattle.netlist.specs.declared.Refusal.{Refusal}
+use Rattle.netlist.specs.declared.Counts.{Counts}
+use Rattle.netlist.specs.declared.Pair.{Pair}
+use Rattle.netlist.specs.declared.Behind.{Behind}
+use Rattle.netlist.specs.declared.Both as both
+use Rattle.netlist.specs.declared.Both.the-variants as both-case
+use Rattle.netlist.specs.declared.Behind.the-variants.{At, Refused}
+use Rattle.netlist.specs.Says.{from, answerOf, GatesRead, GatesSay, OutputsRead, OutputsSay, Listed, HeaderRead, BodyRead, BodySays, PartRead, RightRead, RightSays, BothRead, BothSays, refusal, countsOf, pairOf}
+use Rattle.netlist.proofs.DueLaws.{guard-passed, guard-failed}
+
+-- ---- a body
+
+module _ (text : List ℕ) (c : Cursor) (k : Counts) (middle : Cursor) (g : GatesRead text c (1 + k .inputs) (k .gates) (k .gates) middle) where
+  -- the list with all its gates
+  all-gates : (n : Netlist) × (n .inputs ≡ k .inputs) × (length (n .gates) ≡ k .gates) × (length (n .outs) ≡ 0) × (size n ≡ 1 + k .inputs + k .gates)
+      × (readGates (k .gates) (k .outputs) (emptyList (k .inputs)) (from text c) (c .line) ≡ readOutputs (k .outputs) n (from text middle) (middle .line))
+  unfolding readGates
+  all-gates =
+      let q = g .reads 0 (k .outputs) (emptyList (k .inputs)) (omega arith) (omega arith) in
+      let m = q .1 in
+      (q .0, m .inputs, omega (arith, m .gates), ap length (m .outs), omega (arith, m .inputs, m .gates), q .2)
+
+  body-refused : (r : Refusal) → ((n : Netlist) → size n ≡ 1 + k .inputs + k .gates → readOutputs (k .outputs) n (from text middle) (middle .line) ≡ answerOf r)
+      → readGates (k .gates) (k .outputs) (emptyList (k .inputs)) (from text c) (c .line) ≡ answerOf r
+  body-refused r f = let n = all-gates in n .5 ∙ f (n .0) (n .4)
+
+  body-read : (next : Cursor) → OutputsRead text middle (1 + k .inputs + k .gates) (k .outputs) (k .outputs) next → BodyRead text c k next
+  unfolding readOutputs
+  body-read next o =
+      let n = all-gates in
+      let q = o .reads 0 (n .0) (n .4) (omega arith) in
+      let m = q .1 in
+      record {
+        inside = o .inside;
+        list = record { list = q .0; line = next .line; rest = from text next };
+        listed = record {
+          inputs = m .inputs ∙ n .1;
+          gates = ap length (m .gates) ∙ n .2;
+          outputs = omega (arith, m .outs, n .3);
+          line = refl;
+          rest = refl;
+        };
+        reads = n .5 ∙ q .2;
+      }
+
+  -- whatever the outputs' reader says
+  pub body-says : (r : Behind) → OutputsSay text middle (1 + k .inputs + k .gates) (k .outputs) r → BodySays text c k r
+  body-says (At next) o = body-read next o
+  body-says (Refused r) o = body-refused r o
+
+-- the gates' reader refuses
+pub gates-refuse : (text : List ℕ) (c : Cursor) (k : Counts) (r : Refusal) → GatesSay text c (1 + k .inputs) (k .gates) (Refused r) → BodySays text c k (Refused r)
+gates-refuse text c k r g = g (k .outputs) (emptyList (k .inputs)) (omega arith)
+
+-- ---- a list
+
+module _ (text : List ℕ) (c : Cursor) (k : Counts) (body : Cursor) (h : HeaderRead text c k body) where
+  -- behind a header that the test passes
+  passed : (like : ℕ → ℕ → Bool) → like (k .inputs) (k .outputs) ≡ true
+      → readList like (from text c) (c .line) ≡ readGates (k .gates) (k .outputs) (emptyList (k .inputs)) (from text body) (body .line)
+  passed like e = h .reads like ∙ guard-passed (like (k .inputs) (k .outputs)) 6 (c .line) _ e
+
+  pub list-refused : (like : ℕ → ℕ → Bool) → like (k .inputs) (k .outputs) ≡ true → (r : Refusal)
+      → readGates (k .gates) (k .outputs) (emptyList (k .inputs)) (from text body) (body .line) ≡ answerOf r → readList like (from text c) (c .line) ≡ answerOf r
+  list-refused like e r b = passed like e ∙ b
+
+  pub list-unlike : (like : ℕ → ℕ → Bool) → like (k .inputs) (k .outputs) ≡ false → readList like (from text c) (c .line) ≡ refused 6 (c .line)
+  list-unlike like e = h .reads like ∙ guard-failed (like (k .inputs) (k .outputs)) 6 (c .line) _ e
+
+  pub list-read : (like : ℕ → ℕ → Bool) → like (k .inputs) (k .outputs) ≡ true → (next : Cursor) (b : BodyRead text body k next)
+      → readList like (from text c) (c .line) ≡ ok (b .list)
+  list-read like e next b = passed like e ∙ b .reads
+
+  pub part-read : (next : Cursor) → BodyRead text body k next → PartRead text c k next
+  part-read next b = record { inside = b .inside; list = b .list; listed = b .listed; reads = list-read anyHeader refl next b }
+
+-- ---- a right list behind a left one with these counts
+
+module _ (text : List ℕ) (left : Counts) (c : Cursor) (k : Counts) (body : Cursor) (h : HeaderRead text c k body) where
+  pub unlike-inputs : (k .inputs ≡ left .inputs → ⊥) → RightSays text left c (both-case.Refused (refusal 6 (c .line)))
+  unlike-inputs x n i o = list-unlike text c k body h (likeLeft n) (rw (i, ne-eqb (k .inputs) (left .inputs) x))
+
+  pub unlike-outputs : (k .outputs ≡ left .outputs → ⊥) → RightSays text left c (both-case.Refused (refusal 6 (c .line)))
+  unlike-outputs x n i o = list-unlike text c k body h (likeLeft n) (rw (o, ne-eqb (k .outputs) (left .outputs) x, and-false))
+
+  module _ (inputs : k .inputs ≡ left .inputs) (outputs : k .outputs ≡ left .outputs) where
+    alike : (n : Netlist) → n .inputs ≡ left .inputs → length (n .outs) ≡ left .outputs → likeLeft n (k .inputs) (k .outputs) ≡ true
+    alike n i o = rw (i, o, eq-eqb (k .inputs) (left .inputs) inputs, eq-eqb (k .outputs) (left .outputs) outputs)
+
+    pub right-refused : (r : Refusal) → BodySays text body k (Refused r) → RightSays text left c (both-case.Refused r)
+    right-refused r e n i o = list-refused text c k body h (likeLeft n) (alike n i o) r e
+
+    pub right-read : (next : Cursor) → BodyRead text body k next
+        → RightRead text left c (record { inputs = left .inputs; left = left .gates; right = k .gates; outputs = left .outputs; place = c .at; next = next })
+    right-read next e = record {
+      inside = e .inside;
+      inputs = refl;
+      left = refl;
+      outputs = refl;
+      place = refl;
+      list = e .list;
+      listed = record {
+        inputs = e .listed .inputs ∙ inputs;
+        gates = e .listed .gates;
+        outputs = e .listed .outputs ∙ outputs;
+        line = e .listed .line;
+        rest = e .listed .rest;
+      };
+      reads = λ n i o. list-read text c k body h (likeLeft n) (alike n i o) next e;
+    }
+
+-- ---- both lists
+
+module _ (text : List ℕ) (k : Counts) (middle : Cursor) (a : PartRead text (record { at = 0; line = 1 }) k middle) where
+  second : (like : ℕ → ℕ → Bool) → readList like (a .list .rest) (a .list .line) ≡ readList like (from text middle) (middle .line)
+  second like = rw (a .listed .rest, a .listed .line)
+
+  pub both-says : (r : both.Both) → RightSays text k middle r → BothSays text r
+  unfolding readBoth
+  both-says (both-case.Refused r) e = rw (a .reads, second (likeLeft (a .list .list)), e (a .list .list) (a .listed .inputs) (a .listed .outputs))
+  both-says (both-case.Paired p) e = record {
+    inside = e .inside;
+    left = a .list;
+    right = e .list;
+    first = a .reads;
+    second = second (likeLeft (a .list .list)) ∙ e .reads (a .list .list) (a .listed .inputs) (a .listed .outputs);
+    place = a .listed .rest ∙ rw (e .place);
+    left-listed = record {
+      inputs = a .listed .inputs ∙ sym (e .inputs);
+      gates = a .listed .gates ∙ sym (e .left);
+      outputs = a .listed .outputs ∙ sym (e .outputs);
+      line = refl;
+      rest = a .listed .rest ∙ rw (e .place);
+    };
+    right-listed = record {
+      inputs = e .listed .inputs ∙ sym (e .inputs);
+      gates = e .listed .gates;
+      outputs = e .listed .outputs ∙ sym (e .outputs);
+      line = e .listed .line;
+      rest = e .listed .rest;
+    };
+  }
+
+pub left-refused : (text : List ℕ) (r : Refusal) → readList anyHeader (from text (record { at = 0; line = 1 })) 1 ≡ answerOf r → readBoth text ≡ answerOf r
+unfolding readBoth
+left-refused text r e = rw e
+
+-- ---- one list, and nothing behind it
+
+pub one-refused : (text : List ℕ) (r : Refusal) → readList anyHeader (from text (record { at = 0; line = 1 })) 1 ≡ answerOf r → answerOf r ≡ countsOf (readOne text)
+unfolding readOne
+one-refused text r e = rw e
+
+module _ (text : List ℕ) (k : Counts) (next : Cursor) (a : PartRead text (record { at = 0; line = 1 }) k next) where
+  pub one-more : (r : Refusal) → endAt (from text next) (next .line) ≡ answerOf r → answerOf r ≡ countsOf (readOne text)
+  unfolding readOne
+  one-more r e = rw (a .reads, a .listed .rest, a .listed .line, e)
+
+  pub one-read : endAt (from text next) (next .line) ≡ ok tt → ok k ≡ countsOf (readOne text)
+  unfolding readOne
+  one-read e = rw (a .reads, a .listed .rest, a .listed .line, e, a .listed .inputs, a .listed .gates, a .listed .outputs)
+
+-- ---- two lists, and nothing behind them
+
+pub pair-refused : (text : List ℕ) (r : Refusal) → readBoth text ≡ answerOf r → answerOf r ≡ pairOf (readLists text)
+unfolding readLists
+pair-refused text r e = rw e
+
+module _ (text : List ℕ) (p : Pair) (a : BothRead text p) where
+  pub both-is : readBoth text ≡ ok (record { lists = record { left = a .left .list; right = a .right .list }; line = p .next .line; rest = from text (p .next) })
+  unfolding readBoth
+  both-is = rw (a .first, a .second, a .right-listed .line, a .right-listed .rest)
+
+  pub pair-more : (r : Refusal) → endAt (from text (p .next)) (p .next .line) ≡ answerOf r → answerOf r ≡ pairOf (readLists text)
+  unfolding readLists
+  pair-more r e = rw (both-is, e)
+
+  pub pair-read : endAt (from text (p .next)) (p .next .line) ≡ ok tt → ok (record { inputs = p .inputs; left = p .left; right = p .right; outputs = p .outputs }) ≡ pairOf (readLists text)
+  unfolding readLists
+  pair-read e = rw (both-is, e, a .left-listed .inputs, a .left-listed .gates, a .left-listed .outputs, a .right-listed .gates)

@@ -1,0 +1,84 @@
+-- The header's answer, its comparison with the left list's, and the body's answer, put together (`ListLaws`).
+use denote.Ref.{now}
+use Rattle.model.specs.Lists.{likeLeft}
+use Rattle.netlist.proofs.ListLaws.{unlike-inputs, unlike-outputs, right-refused, right-read}
+use borrow.Author.Needs.{needs}
+use Rattle.netlist.proofs.read_right.Statement.{statement}
+use Rattle.netlist.proofs.read_right.Tie as tie
+use Rattle.netlist.proofs.read_right.Reads as reads
+use Rattle.netlist.proofs.read_right.Lts as lts
+use Rattle.netlist.proofs.Behind.refusal.Reads as Behind-refusal-reads
+use Rattle.netlist.proofs.Part.refusal.Reads as Part-refusal-reads
+use Rattle.netlist.proofs.lines.read_body.Reads as read-body-reads
+use Rattle.netlist.proofs.lines.read_header.Reads as read-header-reads
+
+read-header-requires : tie.Need-read-header-requires
+read-header-requires c κs = search needs
+
+enum-known-header : tie.Need-enum-known-header
+enum-known-header c = search needs
+
+enum-told : tie.Need-enum-told
+enum-told c = search needs
+
+refusal-requires : tie.Need-refusal-requires
+refusal-requires c κs = search needs
+
+returns : tie.Need-returns
+returns c =
+    let is = c .before .enum-told .given .1 in
+    λ n i o. rw (c .refusal .ensures, is) ((rw is at (c .before .before .before .read-header .ensures)) (likeLeft n))
+
+returns-2 : tie.Need-returns-2
+returns-2 c =
+    let a = c .before .before .before .before .before .before .before .before .args in
+    unlike-inputs (now (a .text)) (a .left) (a .middle) _ _ (rw (c .before .before .before .before .header .given .1) at (c .before .before .before .before .before .before .read-header .ensures)) (c .if1 .taken)
+
+returns-3 : tie.Need-returns-3
+returns-3 c =
+    let a = c .before .before .before .before .before .before .before .before .before .before .before .args in
+    unlike-outputs (now (a .text)) (a .left) (a .middle) _ _ (rw (c .before .before .before .before .before .before .before .header .given .1) at (c .before .before .before .before .before .before .before .before .before .read-header .ensures)) (c .if2 .taken)
+
+read-body-requires : tie.Need-read-body-requires
+read-body-requires c κs =
+    let h = rw (c .before .before .before .before .before .before .before .header .given .1) at (c .before .before .before .before .before .before .before .before .before .read-header .ensures) in
+    (h .inside, h .inputs, h .gates)
+
+enum-known-behind : tie.Need-enum-known-behind
+enum-known-behind c = search needs
+
+enum-told-2 : tie.Need-enum-told-2
+enum-told-2 c = search needs
+
+refusal-requires-2 : tie.Need-refusal-requires-2
+refusal-requires-2 c κs = search needs
+
+returns-4 : tie.Need-returns-4
+returns-4 c =
+    let a = c .before .before .before .before .before .before .before .before .before .before .before .before .before .before .before .args in
+    let is = c .before .enum-told2 .given .1 in
+    rw (c .refusal2 .ensures, is)
+    (right-refused (now (a .text)) (a .left) (a .middle) _ _ (rw (c .before .before .before .before .before .before .before .before .before .before .before .header .given .1) at (c .before .before .before .before .before .before .before .before .before .before .before .before .before .read-header .ensures)) (c .before .before .before .before .before .before .before .if1 .left) (c .before .before .before .before .if2 .left) _ (rw is at (c .before .before .before .read-body .ensures)))
+
+returns-5 : tie.Need-returns-5
+returns-5 c =
+    let a = c .before .before .before .before .before .before .before .before .before .before .before .before .before .before .before .args in
+    right-read (now (a .text)) (a .left) (a .middle) _ _ (rw (c .before .before .before .before .before .before .before .before .before .before .before .header .given .1) at (c .before .before .before .before .before .before .before .before .before .before .before .before .before .read-header .ensures)) (c .before .before .before .before .before .before .before .if1 .left) (c .before .before .before .before .if2 .left) _ (rw (c .before .behind .given .1) at (c .before .before .before .read-body .ensures))
+
+pub read-right-spec : {M : Type 1} → statement M
+read-right-spec =
+    tie.close
+    (tie.spec
+    read-header-requires
+    enum-known-header
+    enum-told
+    refusal-requires
+    returns
+    returns-2
+    returns-3
+    read-body-requires
+    enum-known-behind
+    enum-told-2
+    refusal-requires-2
+    returns-4
+    returns-5)

@@ -1,0 +1,76 @@
+// Gates and outputs of a list that was read, by their place: the lines of a list have fixed lengths. Each contract names gate k, or output k,
+// of whatever list the text has at that place, so that nobody proves the reading again.
+use frame::Cursor;
+use frame::Frame;
+use frame::Line;
+use frame::Op;
+use frame::read_line;
+ghost use mathlib.Core.Path.{_≡_};
+ghost use Prim.Native.Nat.{_≤_, _<_};
+ghost use lib.ListN.{drop, length, getD};
+ghost use Rattle.model.specs.Nets.{Netlist};
+ghost use Rattle.laws.specs.ListText.{Stands};
+ghost use Rattle.netlist.specs.Again.{gateMeant, noGate};
+
+// The bytes of each line of a list, its LF counted.
+pub const HEADER_BYTES: usize = 11;
+
+pub const GATE_BYTES: usize = 11;
+
+pub const OUTPUT_BYTES: usize = 7;
+
+pub struct Gate {
+    pub op: Op,
+    pub x: u16,
+    pub y: u16,
+}
+
+// Gate k, from 0, of the list at a place.
+pub fn gate_at(text: &[u8], at: usize, k: usize) -> Gate
+    requires { ⌜ (at ≤ length (now text)) × (k < 1024) ⌝ }
+    ensures { λ r. ⌜ ((n : Netlist) → Stands (drop at (now (text .entry))) n → k < length (n .gates) → gateMeant r ≡ getD (n .gates) k noGate) ⌝ }
+{
+    let place = at + HEADER_BYTES + GATE_BYTES * k;
+    if text.len() < place {
+        return Gate {
+            op: Op::And,
+            x: 0,
+            y: 0,
+        };
+    }
+    let got = read_line(text, Cursor { at: place, line: 1 });
+    let Line::Read(frame, _) = got else {
+        return Gate {
+            op: Op::And,
+            x: 0,
+            y: 0,
+        };
+    };
+    let Frame::Gate { op, x, y } = frame else {
+        return Gate {
+            op: Op::And,
+            x: 0,
+            y: 0,
+        };
+    };
+    Gate { op, x, y }
+}
+
+// The literal of output k, from 0, of the list at a place, which has so many gates.
+pub fn output_at(text: &[u8], at: usize, gates: usize, k: usize) -> u16
+    requires { ⌜ (at ≤ length (now text)) × (gates ≤ 1024) × (k < 64) ⌝ }
+    ensures { λ r. ⌜ ((n : Netlist) → Stands (drop at (now (text .entry))) n → length (n .gates) ≡ gates → k < length (n .outs) → r ≡ getD (n .outs) k 0) ⌝ }
+{
+    let place = at + HEADER_BYTES + GATE_BYTES * gates + OUTPUT_BYTES * k;
+    if text.len() < place {
+        return 0;
+    }
+    let got = read_line(text, Cursor { at: place, line: 1 });
+    let Line::Read(frame, _) = got else {
+        return 0;
+    };
+    let Frame::Output { literal } = frame else {
+        return 0;
+    };
+    literal
+}

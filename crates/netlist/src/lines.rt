@@ -1,0 +1,176 @@
+// The lines of a list: its header, its gates, its outputs, and the end of the text. Each frame's answer is taken apart by `let .. else`, and
+// the refusal is handed upward.
+use crate::Behind;
+use crate::Counts;
+use crate::Part;
+use crate::Refusal;
+use frame::Cursor;
+use frame::Frame;
+use frame::Line;
+use frame::read_line;
+ghost use mathlib.Core.Path.{_≡_};
+ghost use Prim.Native.Nat.{_+_, _≤_};
+ghost use Rattle.frame.specs.Frames.{Inside};
+ghost use Rattle.netlist.specs.Says.{missingOf, HeaderSays, GateSays, GatesSay, OutputSays, OutputsSay, BodySays, EndSays};
+
+pub const MOST_INPUTS: u8 = 64;
+
+pub const MOST_GATES: u16 = 1024;
+
+pub const MOST_OUTPUTS: u8 = 64;
+
+// The refusal where no frame stands: the line's own, or 4 where the text has ended.
+pub fn missing(got: Line, line: usize) -> Refusal
+    ensures { λ r. ⌜ r ≡ missingOf got line ⌝ }
+{
+    match got {
+        Line::Refused { number, line } => Refusal { number, line },
+        Line::End => Refusal { number: 4, line },
+        Line::Read(_, _) => Refusal { number: 3, line },
+    }
+}
+
+pub fn read_header(text: &[u8], cursor: Cursor) -> Part
+    requires { ⌜ Inside (now text) cursor ⌝ }
+    ensures { λ r. ⌜ HeaderSays (now (text .entry)) cursor r ⌝ }
+{
+    let line = cursor.line;
+    let got = read_line(text, cursor);
+    let Line::Read(frame, next) = got else {
+        return Part::Refused(missing(got, line));
+    };
+    let Frame::Header {
+        inputs,
+        gates,
+        outputs,
+    } = frame
+    else {
+        return Part::Refused(Refusal { number: 3, line });
+    };
+    if MOST_INPUTS < inputs {
+        return Part::Refused(Refusal { number: 5, line });
+    }
+    if MOST_GATES < gates {
+        return Part::Refused(Refusal { number: 5, line });
+    }
+    if outputs == 0 {
+        return Part::Refused(Refusal { number: 5, line });
+    }
+    if MOST_OUTPUTS < outputs {
+        return Part::Refused(Refusal { number: 5, line });
+    }
+    Part::Counted(
+        Counts {
+            inputs: inputs as usize,
+            gates: gates as usize,
+            outputs: outputs as usize,
+        },
+        next,
+    )
+}
+
+// The gate that is this net: it reads only nets below its own.
+pub fn read_gate(text: &[u8], cursor: Cursor, net: usize) -> Behind
+    requires { ⌜ Inside (now text) cursor ⌝ }
+    ensures { λ r. ⌜ GateSays (now (text .entry)) cursor net r ⌝ }
+{
+    let line = cursor.line;
+    let got = read_line(text, cursor);
+    let Line::Read(frame, next) = got else {
+        return Behind::Refused(missing(got, line));
+    };
+    let Frame::Gate { op: _, x, y } = frame else {
+        return Behind::Refused(Refusal { number: 3, line });
+    };
+    if net <= (x / 2) as usize {
+        return Behind::Refused(Refusal { number: 7, line });
+    }
+    if net <= (y / 2) as usize {
+        return Behind::Refused(Refusal { number: 7, line });
+    }
+    Behind::At(next)
+}
+
+// So many gates, of which the first is this net.
+pub fn read_gates(text: &[u8], cursor: Cursor, first: usize, count: usize) -> Behind
+    requires { ⌜ Inside (now text) cursor × (first + count ≤ 4096) ⌝ }
+    ensures { λ r. ⌜ GatesSay (now (text .entry)) cursor first count r ⌝ }
+{
+    let mut c = cursor;
+    let mut i: usize = 0;
+    while i < count {
+        let gate = read_gate(text, c, first + i);
+        let Behind::At(next) = gate else {
+            return gate;
+        };
+        c = next;
+        i += 1;
+    }
+    Behind::At(c)
+}
+
+// An output of a list with so many nets: it reads any of them.
+pub fn read_output(text: &[u8], cursor: Cursor, nets: usize) -> Behind
+    requires { ⌜ Inside (now text) cursor ⌝ }
+    ensures { λ r. ⌜ OutputSays (now (text .entry)) cursor nets r ⌝ }
+{
+    let line = cursor.line;
+    let got = read_line(text, cursor);
+    let Line::Read(frame, next) = got else {
+        return Behind::Refused(missing(got, line));
+    };
+    let Frame::Output { literal } = frame else {
+        return Behind::Refused(Refusal { number: 3, line });
+    };
+    if nets <= (literal / 2) as usize {
+        return Behind::Refused(Refusal { number: 7, line });
+    }
+    Behind::At(next)
+}
+
+// So many outputs.
+pub fn read_outputs(text: &[u8], cursor: Cursor, nets: usize, count: usize) -> Behind
+    requires { ⌜ Inside (now text) cursor ⌝ }
+    ensures { λ r. ⌜ OutputsSay (now (text .entry)) cursor nets count r ⌝ }
+{
+    let mut c = cursor;
+    let mut i: usize = 0;
+    while i < count {
+        let output = read_output(text, c, nets);
+        let Behind::At(next) = output else {
+            return output;
+        };
+        c = next;
+        i += 1;
+    }
+    Behind::At(c)
+}
+
+// The gates and the outputs behind a header.
+pub fn read_body(text: &[u8], cursor: Cursor, counts: Counts) -> Behind
+    requires { ⌜ Inside (now text) cursor × (counts .inputs ≤ 64) × (counts .gates ≤ 1024) ⌝ }
+    ensures { λ r. ⌜ BodySays (now (text .entry)) cursor counts r ⌝ }
+{
+    let first = 1 + counts.inputs;
+    let gates = counts.gates;
+    let outputs = counts.outputs;
+    let behind = read_gates(text, cursor, first, gates);
+    let Behind::At(next) = behind else {
+        return behind;
+    };
+    read_outputs(text, next, first + gates, outputs)
+}
+
+// Nothing more in the text: a line behind a list that should be the end is read like any other, and is then 3.
+pub fn read_end(text: &[u8], cursor: Cursor) -> Behind
+    requires { ⌜ Inside (now text) cursor ⌝ }
+    ensures { λ r. ⌜ EndSays (now (text .entry)) cursor r ⌝ }
+{
+    let line = cursor.line;
+    let got = read_line(text, cursor);
+    match got {
+        Line::End => Behind::At(cursor),
+        Line::Refused { number, line } => Behind::Refused(Refusal { number, line }),
+        Line::Read(_, _) => Behind::Refused(Refusal { number: 3, line }),
+    }
+}
