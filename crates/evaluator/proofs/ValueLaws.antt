@@ -79,11 +79,14 @@ pub and-one : (x y : Bool) → (bit x ≡ 0 → ⊥) → bit y ≡ bit (x && y)
 and-one true y e = refl
 and-one false y e = absurd (e refl)
 
-pub xor-sum : (x y : Bool) → (bit x + bit y) % 2 ≡ bit (xorb x y)
-xor-sum true true = refl
-xor-sum true false = refl
-xor-sum false true = refl
-xor-sum false false = refl
+pub xor-zero : (x y : Bool) → bit x ≡ 0 → bit y ≡ bit (xorb x y)
+xor-zero true y e = absurd (omega arith)
+xor-zero false y e = refl
+
+pub xor-one : (x y : Bool) → (bit x ≡ 0 → ⊥) → 1 - bit y ≡ bit (xorb x y)
+xor-one true true e = refl
+xor-one true false e = refl
+xor-one false y e = absurd (e refl)
 
 -- a value stored behind the others
 pub store-value : (values : List ℕ) (vs : List Bool) (at v : ℕ) (b : Bool) → Holds values vs → at ≡ length vs → at < length values → v ≡ bit b

@@ -36,25 +36,30 @@ fn word_of(text: &[u8], counts: Counts, pattern: u64, work: &mut [u8]) -> u64
     read_word(text, work, gates, outputs)
 }
 
-// The word of a list on a pattern; or a refusal of the text, or 17. The working bytes end as zeros in every case.
-pub fn evaluate(text: &[u8], pattern: u64, work: &mut [u8]) -> Evaluated
-    ensures replies { λ r. ⌜ evaluatedOf r ≡ model.evaluate (now (text .entry)) pattern (length (now (work .entry))) ⌝ }
-    ensures leaves { λ r. ⌜ now (work .exit) ≡ zeros (length (now (work .entry))) ⌝ }
+// The answer, with the working bytes in use.
+fn answer(text: &[u8], pattern: u64, work: &mut [u8]) -> Evaluated
+    ensures { λ r. ⌜ evaluatedOf r ≡ model.evaluate (now (text .entry)) pattern (length (now (work .entry))) ⌝ }
 {
     let list = read_list(text);
     let Part::Counted(counts, _) = list else {
-        clear(work);
         return Evaluated::Refused(list.refusal());
     };
     let nets = 1 + counts.inputs + counts.gates;
     if work.len() < nets {
-        clear(work);
         return Evaluated::Refused(Refusal {
             number: 17,
             line: 0,
         });
     }
-    let word = word_of(text, counts, pattern, work);
+    Evaluated::Word(word_of(text, counts, pattern, work))
+}
+
+// The word of a list on a pattern; or a refusal of the text, or 17. The working bytes end as zeros in every case.
+pub fn evaluate(text: &[u8], pattern: u64, work: &mut [u8]) -> Evaluated
+    ensures replies { λ r. ⌜ evaluatedOf r ≡ model.evaluate (now (text .entry)) pattern (length (now (work .entry))) ⌝ }
+    ensures leaves { λ r. ⌜ now (work .exit) ≡ zeros (length (now (work .entry))) ⌝ }
+{
+    let answered = answer(text, pattern, work);
     clear(work);
-    Evaluated::Word(word)
+    answered
 }

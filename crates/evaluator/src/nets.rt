@@ -8,6 +8,7 @@ ghost use Prim.Native.Nat.{ℕ, _+_, _≤_, _<_};
 ghost use mathlib.Core.Bool.{Bool};
 ghost use mathlib.Core.List.{List};
 ghost use lib.ListN.{length};
+ghost use Rattle.model.specs.Limits.{mostInputs, mostGates, mostOutputs};
 ghost use Rattle.model.specs.Nets.{Netlist, netOf, bit, apply, literal, start, nets, eval};
 ghost use Rattle.laws.specs.ListText.{Stands};
 ghost use Rattle.evaluator.specs.Values.{opOf, Holds};
@@ -40,7 +41,12 @@ pub fn gate_value(op: Op, a: u8, b: u8) -> u8
             }
             b
         }
-        Op::Xor => (a + b) % 2,
+        Op::Xor => {
+            if a == 0 {
+                return b;
+            }
+            1 - b
+        }
     }
 }
 
@@ -61,7 +67,7 @@ pub fn set_inputs(values: &mut [u8], inputs: usize, pattern: u64)
 
 // The gates in order, behind net 0 and the inputs.
 pub fn run_gates(text: &[u8], values: &mut [u8], inputs: usize, gates: usize)
-    requires { ⌜ (1 + inputs + gates ≤ length (now values)) × (inputs ≤ 64) × (gates ≤ 1024) ⌝ }
+    requires { ⌜ (1 + inputs + gates ≤ length (now values)) × (inputs ≤ mostInputs) × (gates ≤ mostGates) ⌝ }
     ensures { λ _. ⌜ ((n : Netlist) (p : ℕ) → Stands (now (text .entry)) n → n .inputs ≡ inputs → length (n .gates) ≡ gates
         → Holds (now (values .entry)) (start inputs p) → Holds (now (values .exit)) (nets n p)) ⌝ }
 {
@@ -79,7 +85,7 @@ pub fn run_gates(text: &[u8], values: &mut [u8], inputs: usize, gates: usize)
 
 // The word of the outputs: bit k-1 is output k.
 pub fn read_word(text: &[u8], values: &[u8], gates: usize, outputs: usize) -> u64
-    requires { ⌜ (gates ≤ 1024) × (outputs ≤ 64) ⌝ }
+    requires { ⌜ (gates ≤ mostGates) × (outputs ≤ mostOutputs) ⌝ }
     ensures { λ r. ⌜ ((n : Netlist) (p : ℕ) → Stands (now (text .entry)) n → length (n .gates) ≡ gates → length (n .outs) ≡ outputs
         → Holds (now (values .entry)) (nets n p) → r ≡ eval n p) ⌝ }
 {

@@ -8,6 +8,7 @@ use frame::read_line;
 ghost use mathlib.Core.Path.{_≡_};
 ghost use Prim.Native.Nat.{_≤_, _<_};
 ghost use lib.ListN.{drop, length, getD};
+ghost use Rattle.model.specs.Limits.{mostGates, mostOutputs};
 ghost use Rattle.model.specs.Nets.{Netlist};
 ghost use Rattle.laws.specs.ListText.{Stands};
 ghost use Rattle.netlist.specs.Again.{gateMeant, noGate};
@@ -27,7 +28,7 @@ pub struct Gate {
 
 // Gate k, from 0, of the list at a place.
 pub fn gate_at(text: &[u8], at: usize, k: usize) -> Gate
-    requires { ⌜ (at ≤ length (now text)) × (k < 1024) ⌝ }
+    requires { ⌜ (at ≤ length (now text)) × (k < mostGates) ⌝ }
     ensures { λ r. ⌜ ((n : Netlist) → Stands (drop at (now (text .entry))) n → k < length (n .gates) → gateMeant r ≡ getD (n .gates) k noGate) ⌝ }
 {
     let place = at + HEADER_BYTES + GATE_BYTES * k;
@@ -58,7 +59,7 @@ pub fn gate_at(text: &[u8], at: usize, k: usize) -> Gate
 
 // The literal of output k, from 0, of the list at a place, which has so many gates.
 pub fn output_at(text: &[u8], at: usize, gates: usize, k: usize) -> u16
-    requires { ⌜ (at ≤ length (now text)) × (gates ≤ 1024) × (k < 64) ⌝ }
+    requires { ⌜ (at ≤ length (now text)) × (gates ≤ mostGates) × (k < mostOutputs) ⌝ }
     ensures { λ r. ⌜ ((n : Netlist) → Stands (drop at (now (text .entry))) n → length (n .gates) ≡ gates → k < length (n .outs) → r ≡ getD (n .outs) k 0) ⌝ }
 {
     let place = at + HEADER_BYTES + GATE_BYTES * gates + OUTPUT_BYTES * k;

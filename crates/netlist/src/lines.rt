@@ -10,6 +10,7 @@ use frame::Line;
 use frame::read_line;
 ghost use mathlib.Core.Path.{_≡_};
 ghost use Prim.Native.Nat.{_+_, _≤_};
+ghost use Rattle.model.specs.Limits.{mostInputs, mostGates};
 ghost use Rattle.frame.specs.Frames.{Inside};
 ghost use Rattle.netlist.specs.Says.{missingOf, HeaderSays, GateSays, GatesSay, OutputSays, OutputsSay, BodySays, EndSays};
 
@@ -93,7 +94,7 @@ pub fn read_gate(text: &[u8], cursor: Cursor, net: usize) -> Behind
 
 // So many gates, of which the first is this net.
 pub fn read_gates(text: &[u8], cursor: Cursor, first: usize, count: usize) -> Behind
-    requires { ⌜ Inside (now text) cursor × (first + count ≤ 4096) ⌝ }
+    requires { ⌜ Inside (now text) cursor × (first ≤ 1 + mostInputs) × (count ≤ mostGates) ⌝ }
     ensures { λ r. ⌜ GatesSay (now (text .entry)) cursor first count r ⌝ }
 {
     let mut c = cursor;
@@ -134,21 +135,21 @@ pub fn read_outputs(text: &[u8], cursor: Cursor, nets: usize, count: usize) -> B
     ensures { λ r. ⌜ OutputsSay (now (text .entry)) cursor nets count r ⌝ }
 {
     let mut c = cursor;
-    let mut i: usize = 0;
-    while i < count {
+    let mut k: usize = 0;
+    while k < count {
         let output = read_output(text, c, nets);
         let Behind::At(next) = output else {
             return output;
         };
         c = next;
-        i += 1;
+        k += 1;
     }
     Behind::At(c)
 }
 
 // The gates and the outputs behind a header.
 pub fn read_body(text: &[u8], cursor: Cursor, counts: Counts) -> Behind
-    requires { ⌜ Inside (now text) cursor × (counts .inputs ≤ 64) × (counts .gates ≤ 1024) ⌝ }
+    requires { ⌜ Inside (now text) cursor × (counts .inputs ≤ mostInputs) × (counts .gates ≤ mostGates) ⌝ }
     ensures { λ r. ⌜ BodySays (now (text .entry)) cursor counts r ⌝ }
 {
     let first = 1 + counts.inputs;

@@ -1,4 +1,4 @@
--- The invariant: of the lines asked for i are read (`LoopLaws`); the measure is how many are left.
+-- The invariant: of the lines asked for k are read (`LoopLaws`); the measure is how many are left.
 use Prim.Native.Nat.{_≤_, _-_}
 use mathlib.Core.Path.{_≡_}
 use native.Mathlib.Omega.{arith}
@@ -13,10 +13,10 @@ use Rattle.netlist.proofs.lines.read_outputs.Lts as lts
 use Rattle.netlist.proofs.lines.read_output.Reads as read-output-reads
 
 abbrev Inv-loop : tie.InvT-loop
-Inv-loop text nets count c₀ i₀ c i = (i ≤ count) × OutputsRead text c₀ nets count i c
+Inv-loop text nets count c₀ k₀ c k = (k ≤ count) × OutputsRead text c₀ nets count k c
 
 abbrev μ-loop : tie.MeasureT-loop
-μ-loop text nets count c₀ i₀ c i = count - i
+μ-loop text nets count c₀ k₀ c k = count - k
 
 loop-holds : tie.Need-loop-holds Inv-loop μ-loop
 loop-holds c =
@@ -38,10 +38,10 @@ returns c =
     let l = c .before .before .before .before .loop in
     let one = c .before .before .read-output in
     rw (c .enum-told .given .1)
-    (outputs-refused (now (a .text)) (a .cursor) (a .nets) (a .count) (l .i) (l .c) (l .inv .1) (omega arith) _ (rw (c .enum-told .given .1) at (one .ensures)))
+    (outputs-refused (now (a .text)) (a .cursor) (a .nets) (a .count) (l .k) (l .c) (l .inv .1) (omega arith) _ (rw (c .enum-told .given .1) at (one .ensures)))
 
-add-i : tie.Need-add-i Inv-loop μ-loop
-add-i c = search needs
+add-k : tie.Need-add-k Inv-loop μ-loop
+add-k c = search needs
 
 loop-less : tie.Need-loop-less Inv-loop μ-loop
 loop-less c = search needs
@@ -51,13 +51,13 @@ loop-again c =
     let a = c .before .before .before .before .before .before .before .args in
     let l = c .before .before .before .before .before .loop in
     let one = c .before .before .before .read-output in
-    (omega arith, outputs-more (now (a .text)) (a .cursor) (a .nets) (a .count) (l .i) (l .c) (l .inv .1) (omega arith) _ (rw (c .before .output .given .1) at (one .ensures)))
+    (omega arith, outputs-more (now (a .text)) (a .cursor) (a .nets) (a .count) (l .k) (l .c) (l .inv .1) (omega arith) _ (rw (c .before .output .given .1) at (one .ensures)))
 
 returns-2 : tie.Need-returns-2 Inv-loop μ-loop
 returns-2 c =
     let a = c .before .before .before .args in
     let l = c .before .loop in
-    let e : l .i ≡ a .count = omega arith in
+    let e : l .k ≡ a .count = omega arith in
     rw e at (l .inv .1)
 
 pub read-outputs-spec : {M : Type 1} → statement M
@@ -71,7 +71,7 @@ read-outputs-spec =
     enum-known-output
     enum-told
     returns
-    add-i
+    add-k
     loop-less
     loop-again
     returns-2)

@@ -1,0 +1,80 @@
+-- The reader's reply, the room, and the word (`AnswerLaws`).
+use native.Mathlib.Omega.{arith}
+use denote.Ref.{now}
+use lib.ListN.{length}
+use Rattle.netlist.proofs.ReplyLaws.{one-list, one-none}
+use Rattle.evaluator.proofs.AnswerLaws.{text-refused, work-short, evaluated}
+use borrow.Author.Needs.{needs}
+use Rattle.evaluator.proofs.answer.Statement.{statement}
+use Rattle.evaluator.proofs.answer.Tie as tie
+use Rattle.evaluator.proofs.answer.Reads as reads
+use Rattle.evaluator.proofs.answer.Lts as lts
+use Rattle.evaluator.proofs.word_of.Reads as word-of-reads
+use Rattle.netlist.proofs.Part.refusal.Reads as refusal-reads
+use Rattle.netlist.proofs.read_list.Reads as read-list-reads
+
+read-list-requires : tie.Need-read-list-requires
+read-list-requires c κs = search needs
+
+enum-known-list : tie.Need-enum-known-list
+enum-known-list c = search needs
+
+enum-told : tie.Need-enum-told
+enum-told c = search needs
+
+refusal-requires : tie.Need-refusal-requires
+refusal-requires c κs = search needs
+
+returns : tie.Need-returns
+returns c =
+    let a = c .before .before .before .before .before .before .args in
+    let is = c .before .enum-told .given .1 in
+    rw (c .refusal .ensures, is) (text-refused (now (a .text)) (a .pattern) (length (now (a .work))) _ _ (one-none (now (a .text)) _ _ (rw is at (c .before .before .before .read-list .ensures))))
+
+add-nets : tie.Need-add-nets
+add-nets c =
+    let a = c .before .before .before .before .before .before .before .args in
+    omega (arith, (one-list (now (a .text)) _ (rw (c .before .before .list .given .1) at (c .before .before .before .before .read-list .ensures))) .most-inputs)
+
+add-nets-2 : tie.Need-add-nets-2
+add-nets-2 c =
+    let a = c .before .before .before .before .before .before .before .before .args in
+    let o = one-list (now (a .text)) _ (rw (c .before .before .before .list .given .1) at (c .before .before .before .before .before .read-list .ensures)) in
+    omega (arith, o .most-inputs, o .most-gates)
+
+returns-2 : tie.Need-returns-2
+returns-2 c =
+    let a = c .before .before .before .before .before .before .before .before .before .args in
+    work-short (now (a .text)) (a .pattern) (length (now (a .work))) _ (one-list (now (a .text)) _ (rw (c .before .before .before .before .list .given .1) at (c .before .before .before .before .before .before .read-list .ensures))) (c .if1 .taken)
+
+word-of-requires : tie.Need-word-of-requires
+word-of-requires c κs =
+    let a = c .before .before .before .before .before .before .before .before .before .before .args in
+    let o = one-list (now (a .text)) _ (rw (c .before .before .before .before .before .list .given .1) at (c .before .before .before .before .before .before .before .read-list .ensures)) in
+    record { room = c .before .if1 .left; inputs = o .most-inputs; gates = o .most-gates; outputs = o .most-outputs }
+
+same-length : tie.Need-same-length
+same-length c = search needs
+
+returns-3 : tie.Need-returns-3
+returns-3 c =
+    let a = c .before .before .before .before .before .before .before .before .before .before .before .before .before .args in
+    let o = one-list (now (a .text)) _ (rw (c .before .before .before .before .before .before .before .before .list .given .1) at (c .before .before .before .before .before .before .before .before .before .before .read-list .ensures)) in
+    let w = c .before .before .word-of in
+    evaluated (now (a .text)) (a .pattern) (length (now (a .work))) _ o (w .result) (c .before .before .before .before .if1 .left) (w .ensures (o .list) (o .stands) (o .inputs) (o .gates) (o .outputs))
+
+pub answer-spec : {M : Type 1} → statement M
+answer-spec =
+    tie.close
+    (tie.spec
+    read-list-requires
+    enum-known-list
+    enum-told
+    refusal-requires
+    returns
+    add-nets
+    add-nets-2
+    returns-2
+    word-of-requires
+    same-length
+    returns-3)
