@@ -45,13 +45,13 @@ add-nets-2 c =
 returns-2 : tie.Need-returns-2
 returns-2 c =
     let a = c .before .before .before .before .before .before .before .before .before .args in
-    work-short (now (a .text)) (a .pattern) (length (now (a .work))) _ (one-list (now (a .text)) _ (rw (c .before .before .before .before .list .given .1) at (c .before .before .before .before .before .before .read-list .ensures))) (c .if1 .taken)
+    work-short (now (a .text)) (a .pattern) (length (now (a .work))) _ (one-list (now (a .text)) _ (rw (c .before .before .before .before .list .given .1) at (c .before .before .before .before .before .before .read-list .ensures))) (omega arith)
 
 word-of-requires : tie.Need-word-of-requires
 word-of-requires c κs =
     let a = c .before .before .before .before .before .before .before .before .before .before .args in
     let o = one-list (now (a .text)) _ (rw (c .before .before .before .before .before .list .given .1) at (c .before .before .before .before .before .before .before .read-list .ensures)) in
-    record { room = c .before .if1 .left; inputs = o .most-inputs; gates = o .most-gates; outputs = o .most-outputs }
+    record { room = omega arith; inputs = o .most-inputs; gates = o .most-gates; outputs = o .most-outputs }
 
 same-length : tie.Need-same-length
 same-length c = search needs
@@ -61,7 +61,7 @@ returns-3 c =
     let a = c .before .before .before .before .before .before .before .before .before .before .before .before .before .args in
     let o = one-list (now (a .text)) _ (rw (c .before .before .before .before .before .before .before .before .list .given .1) at (c .before .before .before .before .before .before .before .before .before .before .read-list .ensures)) in
     let w = c .before .before .word-of in
-    evaluated (now (a .text)) (a .pattern) (length (now (a .work))) _ o (w .result) (c .before .before .before .before .if1 .left) (w .ensures (o .list) (o .stands) (o .inputs) (o .gates) (o .outputs))
+    evaluated (now (a .text)) (a .pattern) (length (now (a .work))) _ o (w .result) (omega arith) (w .ensures (o .list) (o .stands) (o .inputs) (o .gates) (o .outputs))
 
 pub answer-spec : {M : Type 1} → statement M
 answer-spec =

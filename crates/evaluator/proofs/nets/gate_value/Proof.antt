@@ -1,5 +1,6 @@
 -- Each arm knows its gate, and the values of bits are those of the definitions (`ValueLaws`).
 use mathlib.Core.Path.{sym, _∙_}
+use native.Mathlib.Omega.{arith}
 use Rattle.evaluator.proofs.ValueLaws.{and-zero, and-one, xor-zero, xor-one}
 use borrow.Author.Needs.{needs}
 use Rattle.evaluator.proofs.nets.gate_value.Statement.{statement}
@@ -26,7 +27,7 @@ returns-3 : tie.Need-returns-3
 returns-3 c = λ x y e f. rw (c .before .enum-told .given .1) (f ∙ and-one x y (λ z. c .if1 .left (e ∙ z)))
 
 returns-4 : tie.Need-returns-4
-returns-4 c = λ x y e f. rw (c .before .enum-told2 .given .1, f) (xor-one x y (λ z. c .if2 .left (e ∙ z)))
+returns-4 c = λ x y e f. rw (c .before .enum-told2 .given .1) (omega (arith, f, xor-one x y (λ z. c .if2 .left (e ∙ z))))
 
 pub gate-value-spec : {M : Type 1} → statement M
 gate-value-spec =

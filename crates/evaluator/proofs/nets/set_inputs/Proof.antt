@@ -1,5 +1,5 @@
 -- The invariant: the inputs stored so far and the bits that are left of the pattern are all of them (`Stored`).
-use Prim.Native.Nat.{_+_, _-_, _%_, _≤_}
+use Prim.Native.Nat.{_+_, _-_, _≤_}
 use mathlib.Core.Path.{_≡_, refl, _∙_}
 use native.Mathlib.Omega.{arith}
 use borrow.Author.Needs.{needs}
@@ -45,7 +45,7 @@ loop-again c =
     let a = c .before .before .args in
     let l = c .before .loop in
     let v = l .inv in
-    (omega arith, length-set (l .values) (1 + l .k) (l .rest % 2) ∙ v .1, simp length-set (v .2), stored-more (a .inputs) (a .pattern) (l .values) (l .k) (l .rest) (omega arith) (omega arith) (v .3))
+    (omega arith, simp length-set (v .1 ∙ simp length-set), simp length-set (v .2), stored-more (a .inputs) (a .pattern) (l .values) (l .k) (l .rest) (omega arith) (omega arith) (v .3))
 
 same-length : tie.Need-same-length Inv-loop μ-loop
 same-length c = c .before .loop .inv .1 ∙ simp length-set

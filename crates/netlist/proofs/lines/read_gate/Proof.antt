@@ -1,5 +1,6 @@
 -- The reader's answer, then the kind, then both literals: each return is the definition's own case (`LineLaws`).
 use Prim.Native.Nat.{_/_}
+use native.Mathlib.Omega.{arith}
 use borrow.Author.Tests.{lt-ltb, le-ltb}
 use denote.Ref.{now}
 use Rattle.netlist.specs.Says.{from}
@@ -47,7 +48,7 @@ returns-3 c =
     let one = c .before .before .before .before .before .before .before .read-line in
     let got = c .before .before .before .before .before .got .given in
     let gate = c .before .before .frame .given in
-    gate-over (now (a .text)) (a .cursor) (one .result) (one .ensures .0) _ _ (got .1) _ _ _ (gate .1) (a .net) (rw (le-ltb (gate .0 .1 .0 / 2) (a .net) (c .if1 .taken)))
+    gate-over (now (a .text)) (a .cursor) (one .result) (one .ensures .0) _ _ (got .1) _ _ _ (gate .1) (a .net) (rw (le-ltb (gate .0 .1 .0 / 2) (a .net) (omega arith)))
 
 cast-if2 : tie.Need-cast-if2
 cast-if2 c = search needs
@@ -58,7 +59,7 @@ returns-4 c =
     let one = c .before .before .before .before .before .before .before .before .read-line in
     let got = c .before .before .before .before .before .before .got .given in
     let gate = c .before .before .before .frame .given in
-    gate-over (now (a .text)) (a .cursor) (one .result) (one .ensures .0) _ _ (got .1) _ _ _ (gate .1) (a .net) (rw (lt-ltb (gate .0 .1 .0 / 2) (a .net) (c .before .if1 .left), le-ltb (gate .0 .1 .1 .0 / 2) (a .net) (c .if2 .taken)))
+    gate-over (now (a .text)) (a .cursor) (one .result) (one .ensures .0) _ _ (got .1) _ _ _ (gate .1) (a .net) (rw (lt-ltb (gate .0 .1 .0 / 2) (a .net) (omega arith), le-ltb (gate .0 .1 .1 .0 / 2) (a .net) (omega arith)))
 
 returns-5 : tie.Need-returns-5
 returns-5 c =
@@ -67,7 +68,7 @@ returns-5 c =
     let got = c .before .before .before .before .before .before .got .given in
     let gate = c .before .before .before .frame .given in
     gate-read (now (a .text)) (a .cursor) (one .result) (one .ensures .0) _ _ (got .1) _ _ _ (gate .1) (a .net)
-    (rw (lt-ltb (gate .0 .1 .0 / 2) (a .net) (c .before .if1 .left), lt-ltb (gate .0 .1 .1 .0 / 2) (a .net) (c .if2 .left)))
+    (rw (lt-ltb (gate .0 .1 .0 / 2) (a .net) (omega arith), lt-ltb (gate .0 .1 .1 .0 / 2) (a .net) (omega arith)))
     ((rw (got .1) at (one .ensures .1)) .0)
 
 pub read-gate-spec : {M : Type 1} → statement M

@@ -46,7 +46,7 @@ returns-3 c =
     let one = c .before .before .before .before .before .before .before .read-line in
     let got = c .before .before .before .before .before .got .given in
     let h = c .before .before .frame .given in
-    header-range (now (a .text)) (a .cursor) (one .result) (one .ensures .0) _ _ (got .1) _ _ _ (h .1) (rw (lt-leb (h .0 .0) mostInputs (c .if1 .taken)))
+    header-range (now (a .text)) (a .cursor) (one .result) (one .ensures .0) _ _ (got .1) _ _ _ (h .1) (rw (lt-leb (h .0 .0) mostInputs (omega arith)))
 
 returns-4 : tie.Need-returns-4
 returns-4 c =
@@ -54,7 +54,7 @@ returns-4 c =
     let one = c .before .before .before .before .before .before .before .before .read-line in
     let got = c .before .before .before .before .before .before .got .given in
     let h = c .before .before .before .frame .given in
-    header-range (now (a .text)) (a .cursor) (one .result) (one .ensures .0) _ _ (got .1) _ _ _ (h .1) (rw (lt-leb (h .0 .1 .0) mostGates (c .if2 .taken), and-false))
+    header-range (now (a .text)) (a .cursor) (one .result) (one .ensures .0) _ _ (got .1) _ _ _ (h .1) (rw (lt-leb (h .0 .1 .0) mostGates (omega arith), and-false))
 
 returns-5 : tie.Need-returns-5
 returns-5 c =
@@ -70,7 +70,7 @@ returns-6 c =
     let one = c .before .before .before .before .before .before .before .before .before .before .read-line in
     let got = c .before .before .before .before .before .before .before .before .got .given in
     let h = c .before .before .before .before .before .frame .given in
-    header-range (now (a .text)) (a .cursor) (one .result) (one .ensures .0) _ _ (got .1) _ _ _ (h .1) (rw (lt-leb (h .0 .1 .1 .0) mostOutputs (c .if4 .taken), and-false))
+    header-range (now (a .text)) (a .cursor) (one .result) (one .ensures .0) _ _ (got .1) _ _ _ (h .1) (rw (lt-leb (h .0 .1 .1 .0) mostOutputs (omega arith), and-false))
 
 cast-t17 : tie.Need-cast-t17
 cast-t17 c = search needs

@@ -1,5 +1,6 @@
 -- The reader's answer, then the kind, then the literal: each return is the definition's own case (`LineLaws`).
 use Prim.Native.Nat.{_/_}
+use native.Mathlib.Omega.{arith}
 use borrow.Author.Tests.{lt-ltb, le-ltb}
 use denote.Ref.{now}
 use Rattle.netlist.specs.Says.{from}
@@ -47,7 +48,7 @@ returns-3 c =
     let one = c .before .before .before .before .before .before .before .read-line in
     let got = c .before .before .before .before .before .got .given in
     let output = c .before .before .frame .given in
-    output-over (now (a .text)) (a .cursor) (one .result) (one .ensures .0) _ _ (got .1) _ (output .1) (a .nets) (le-ltb (output .0 .0 / 2) (a .nets) (c .if1 .taken))
+    output-over (now (a .text)) (a .cursor) (one .result) (one .ensures .0) _ _ (got .1) _ (output .1) (a .nets) (le-ltb (output .0 .0 / 2) (a .nets) (omega arith))
 
 returns-4 : tie.Need-returns-4
 returns-4 c =
@@ -55,7 +56,7 @@ returns-4 c =
     let one = c .before .before .before .before .before .before .before .read-line in
     let got = c .before .before .before .before .before .got .given in
     let output = c .before .before .frame .given in
-    output-read (now (a .text)) (a .cursor) (one .result) (one .ensures .0) _ _ (got .1) _ (output .1) (a .nets) (lt-ltb (output .0 .0 / 2) (a .nets) (c .if1 .left)) ((rw (got .1) at (one .ensures .1)) .0)
+    output-read (now (a .text)) (a .cursor) (one .result) (one .ensures .0) _ _ (got .1) _ (output .1) (a .nets) (lt-ltb (output .0 .0 / 2) (a .nets) (omega arith)) ((rw (got .1) at (one .ensures .1)) .0)
 
 pub read-output-spec : {M : Type 1} → statement M
 read-output-spec =
