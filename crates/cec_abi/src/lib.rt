@@ -1,20 +1,29 @@
-// The frame calls under C names, as include/cec.h declares them: answers become numbers in an array that the caller lends.
+// The calls under C names, as include/cec.h declares them: answers become numbers in an array that the caller lends.
 mod numbers; // a frame from a kind and numbers
 mod replies; // an answer as numbers
 
+use evaluator::evaluate;
 use frame::Decoded;
 use frame::Written;
 use frame::fields::clear;
 use frame::read_frame;
 use frame::write_frame;
+use netlist::read_list;
+use netlist::read_lists;
 use numbers::frame_from;
 use replies::frame_reply;
+use replies::list_reply;
+use replies::lists_reply;
+use replies::word_reply;
 use replies::write_reply;
 ghost use mathlib.Core.Path.{_≡_};
 ghost use lib.ListN.{length};
+ghost use Rattle.model.specs.Answers.{zeros};
 ghost use Rattle.model.specs.Frames.{loneLine};
+ghost use Rattle.model.specs.Lists.{readOne, readLists};
+ghost use Rattle.model.specs.Evaluator as model;
 ghost use Rattle.frame.specs.Frames.{decodedOf, writtenOf};
-ghost use Rattle.cec_abi.specs.Replies.{frameReply, writeReply};
+ghost use Rattle.cec_abi.specs.Replies.{frameReply, numberReply, listReply, listsReply};
 ghost use Rattle.cec_abi.specs.Calls.{writeAnswer, writtenAnswer, writeNumbers, writtenNumbers};
 
 // A lone line, as numbers: refusal, line, kind, four fields.
@@ -42,8 +51,33 @@ fn write_answer(answer: Decoded, out: &mut [u8]) -> Written
 // A frame's line, its kind and fields given as numbers; the reply is refusal, line, length.
 #[no_mangle]
 pub extern "C" fn cec_write_frame(kind: u8, fields: &[u64; 4], out: &mut [u8], reply: &mut [u64; 3])
-    ensures replies { λ _. ⌜ now (reply .exit) ≡ writeReply (writeNumbers kind (now (fields .entry)) (length (now (out .entry)))) ⌝ }
+    ensures replies { λ _. ⌜ now (reply .exit) ≡ numberReply (writeNumbers kind (now (fields .entry)) (length (now (out .entry)))) ⌝ }
     ensures leaves { λ _. ⌜ now (out .exit) ≡ writtenNumbers kind (now (fields .entry)) (length (now (out .entry))) ⌝ }
 {
     *reply = write_reply(write_answer(frame_from(kind, *fields), out));
+}
+
+// One list, as numbers: refusal, line, inputs, gates, outputs.
+#[no_mangle]
+pub extern "C" fn cec_read_list(text: &[u8], reply: &mut [u64; 5])
+    ensures { λ _. ⌜ now (reply .exit) ≡ listReply (readOne (now (text .entry))) ⌝ }
+{
+    *reply = list_reply(read_list(text));
+}
+
+// Two lists, as numbers: refusal, line, inputs, gates of the left and of the right, outputs.
+#[no_mangle]
+pub extern "C" fn cec_read_lists(text: &[u8], reply: &mut [u64; 6])
+    ensures { λ _. ⌜ now (reply .exit) ≡ listsReply (readLists (now (text .entry))) ⌝ }
+{
+    *reply = lists_reply(read_lists(text));
+}
+
+// The word of one list on a pattern; the reply is refusal, line, word.
+#[no_mangle]
+pub extern "C" fn cec_evaluate(text: &[u8], pattern: u64, work: &mut [u8], reply: &mut [u64; 3])
+    ensures replies { λ _. ⌜ now (reply .exit) ≡ numberReply (model.evaluate (now (text .entry)) pattern (length (now (work .entry)))) ⌝ }
+    ensures leaves { λ _. ⌜ now (work .exit) ≡ zeros (length (now (work .entry))) ⌝ }
+{
+    *reply = word_reply(evaluate(text, pattern, work));
 }

@@ -1,15 +1,23 @@
 // An answer as numbers: the refusal and its line first, zeros for what it does not have.
+use evaluator::Evaluated;
 use frame::Decoded;
 use frame::Frame;
 use frame::Written;
 use frame::fields::Fields;
 use frame::fields::fields_of;
+use netlist::Both;
+use netlist::Part;
 ghost use mathlib.Core.Path.{_≡_};
 ghost use Prim.Native.Nat.{_<_};
 ghost use lib.ListN.{getD, take};
 ghost use Rattle.frame.specs.Frames.{frameOf, decodedOf, writtenOf};
+ghost use Rattle.netlist.specs.Says.{countsReply, countsOf, pairReply, pairOf};
+ghost use Rattle.evaluator.specs.Values.{evaluatedOf};
+ghost use Rattle.model.specs.Answers.{Answer};
 ghost use Rattle.model.specs.Answers.Answer.{ok};
-ghost use Rattle.cec_abi.specs.Replies.{frameReply, writeReply};
+ghost use Rattle.model.specs.Nets.{Netlist};
+ghost use Rattle.model.specs.Lists.{Lists};
+ghost use Rattle.cec_abi.specs.Replies.{frameReply, numberReply, listReply, listsReply};
 
 // Field i, from 0; 0 behind the last.
 fn field_at(w: Fields, i: usize) -> u64
@@ -47,10 +55,50 @@ pub fn frame_reply(answer: Decoded) -> [u64; 7]
 }
 
 pub fn write_reply(answer: Written) -> [u64; 3]
-    ensures { λ r. ⌜ r ≡ writeReply (writtenOf answer) ⌝ }
+    ensures { λ r. ⌜ r ≡ numberReply (writtenOf answer) ⌝ }
 {
     match answer {
         Written::Done(len) => [0, 0, len as u64],
         Written::Unwritten { number, line } => [number as u64, line as u64, 0],
+    }
+}
+
+// The reply of every reading of a list that comes to these counts or to this refusal.
+pub fn list_reply(answer: Part) -> [u64; 5]
+    ensures { λ r. ⌜ ((a : Answer Netlist) → countsReply answer ≡ countsOf a → r ≡ listReply a) ⌝ }
+{
+    match answer {
+        Part::Counted(counts, _) => {
+            let inputs = counts.inputs as u64;
+            let gates = counts.gates as u64;
+            let outputs = counts.outputs as u64;
+            [0, 0, inputs, gates, outputs]
+        }
+        Part::Refused(refusal) => [refusal.number as u64, refusal.line as u64, 0, 0, 0],
+    }
+}
+
+// The same for two lists.
+pub fn lists_reply(answer: Both) -> [u64; 6]
+    ensures { λ r. ⌜ ((a : Answer Lists) → pairReply answer ≡ pairOf a → r ≡ listsReply a) ⌝ }
+{
+    match answer {
+        Both::Paired(pair) => {
+            let inputs = pair.inputs as u64;
+            let left = pair.left as u64;
+            let right = pair.right as u64;
+            let outputs = pair.outputs as u64;
+            [0, 0, inputs, left, right, outputs]
+        }
+        Both::Refused(refusal) => [refusal.number as u64, refusal.line as u64, 0, 0, 0, 0],
+    }
+}
+
+pub fn word_reply(answer: Evaluated) -> [u64; 3]
+    ensures { λ r. ⌜ r ≡ numberReply (evaluatedOf answer) ⌝ }
+{
+    match answer {
+        Evaluated::Word(word) => [0, 0, word],
+        Evaluated::Refused(refusal) => [refusal.number as u64, refusal.line as u64, 0],
     }
 }

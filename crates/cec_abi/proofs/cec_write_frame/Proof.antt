@@ -1,6 +1,6 @@
 -- The answer is the frame that the kind and the numbers make, and the rest is the calls' own.
 use mathlib.Core.Path.{ap, _∙_}
-use Rattle.cec_abi.specs.Replies.{writeReply}
+use Rattle.cec_abi.specs.Replies.{numberReply}
 use borrow.Author.Needs.{needs}
 use Rattle.cec_abi.proofs.cec_write_frame.Statement.{statement}
 use Rattle.cec_abi.proofs.cec_write_frame.Tie as tie
@@ -26,7 +26,7 @@ returns : tie.Need-returns
 returns c =
     let f = c .before .before .before .before .before .frame-from in
     let w = c .before .before .before .write-answer in
-    (c .write-reply .ensures ∙ ap writeReply (rw (f .ensures) at (w .ensures .0)), rw (f .ensures) at (w .ensures .1))
+    (c .write-reply .ensures ∙ ap numberReply (rw (f .ensures) at (w .ensures .0)), rw (f .ensures) at (w .ensures .1))
 
 pub cec-write-frame-spec : {M : Type 1} → statement M
 cec-write-frame-spec =
