@@ -29,8 +29,8 @@ extern "C" {
  *   0x21        report                       refusal (1), line (3), steps (2), clauses (2)
  *
  * A byte is two digits out of 0-9 and A-F, and a line ends in LF. The longest line, a report's,
- * has 19 bytes with its LF. Neither function tests the fields against the limits of a list: a
- * header of 255 inputs is read and written like any other.
+ * has 19 bytes with its LF. cec_read_frame and cec_write_frame do not test the fields against the
+ * limits of a list: a header of 255 inputs is read and written like any other.
  */
 
 /*
@@ -69,6 +69,74 @@ void cec_read_frame(const uint8_t *text, size_t text_len, uint64_t reply[7]);
  */
 void cec_write_frame(uint8_t kind, const uint64_t fields[4], uint8_t *out, size_t out_len,
                      uint64_t reply[3]);
+
+/*
+ * A gate list is one header, then its gates, then its outputs. The header counts 0 to 64 inputs,
+ * 0 to 1,024 gates and 1 to 64 outputs. Net 0 is constant false, nets 1 to the number of inputs
+ * are the inputs, and the gates follow in order. A literal is 2 * net, and 1 more if complemented.
+ * A gate reads only nets below its own; an output reads any net of its list.
+ *
+ * A text of lists is read from the top, and the first fault ends the reading. Lines are counted
+ * from 1 over the whole text. Where a frame of a list is due, the first of these faults is given:
+ *
+ *   4  the text has ended; the line is one past the last
+ *   2  the line has a byte other than 0-9, A-F and its LF, or the text ends before its LF
+ *   3  the line is empty, its kind is not due here, or its length is wrong for its kind
+ *   5  a count of a header is outside its range
+ *   6  the right list's header has inputs or outputs unlike the left list's
+ *   7  a literal of a gate or an output is over a net that it may not read
+ *
+ * Behind the last list the text has to end. A line that follows is one of these faults:
+ *
+ *   2  the line has a byte other than 0-9, A-F and its LF, or the text ends before its LF
+ *   3  the line has no such fault, also an empty one
+ */
+
+/*
+ * Reads a text of one list.
+ *
+ * reply[0]  0 if the list was read, else the refusal number: 2, 3, 4, 5 or 7 as above
+ * reply[1]  0 if the list was read, else the line of the refusal
+ * reply[2]  the number of inputs
+ * reply[3]  the number of gates
+ * reply[4]  the number of outputs
+ *
+ * After a refusal reply[2] to reply[4] are 0.
+ */
+void cec_read_list(const uint8_t *text, size_t text_len, uint64_t reply[5]);
+
+/*
+ * Reads a text of two lists, the left one and then the right one. They have the same number of
+ * inputs and the same number of outputs; their numbers of gates may differ. The right list's
+ * literals are over its own nets, numbered as if it stood alone.
+ *
+ * reply[0]  0 if both lists were read, else the refusal number: 2 to 7 as above
+ * reply[1]  0 if both lists were read, else the line of the refusal
+ * reply[2]  the number of inputs of each list
+ * reply[3]  the number of gates of the left list
+ * reply[4]  the number of gates of the right list
+ * reply[5]  the number of outputs of each list
+ *
+ * After a refusal reply[2] to reply[5] are 0.
+ */
+void cec_read_lists(const uint8_t *text, size_t text_len, uint64_t reply[6]);
+
+/*
+ * Reads a text of one list and evaluates the list on a pattern: bit k - 1 of pattern is input k,
+ * and its bits from the number of inputs up are ignored.
+ *
+ * reply[0]  0 if the list was evaluated, else the refusal number
+ * reply[1]  0 if the list was evaluated, else the line of the refusal
+ * reply[2]  the word: bit k - 1 is output k, the others are 0; all of it is 0 after a refusal
+ *
+ * All of work is zero afterwards, up to work_len, in every case. What it held before does not
+ * matter. The first of these faults is given:
+ *
+ *   2, 3, 4, 5 or 7  the text is refused as by cec_read_list, with the same line
+ *   17, line 0       work_len is below 1 + inputs + gates
+ */
+void cec_evaluate(const uint8_t *text, size_t text_len, uint64_t pattern, uint8_t *work,
+                  size_t work_len, uint64_t reply[3]);
 
 #ifdef __cplusplus
 }

@@ -1,35 +1,14 @@
 //! Safe calls into the static library `libcec_abi.a`. What each number and byte means afterwards
-//! stands in `include/cec.h`; the declarations here repeat that header.
+//! stands in `include/cec.h`; the declarations here repeat that header, a module for each part of
+//! it. Who uses the calls of one module does not need the library to have those of another.
+
+mod evaluator;
+mod frames;
+mod lists;
+
+pub use evaluator::evaluate;
+pub use frames::{read_frame, write_frame};
+pub use lists::{read_list, read_lists};
 
 /// A reply is filled with this before each call, so that a number left unwritten is seen.
 const UNWRITTEN: u64 = 0xA5A5_A5A5_A5A5_A5A5;
-
-extern "C" {
-    fn cec_read_frame(text: *const u8, text_len: usize, reply: *mut u64);
-    fn cec_write_frame(kind: u8, fields: *const u64, out: *mut u8, out_len: usize, reply: *mut u64);
-}
-
-/// Reads a text of one line: refusal number, its line, kind, four fields.
-pub fn read_frame(text: &[u8]) -> [u64; 7] {
-    let mut reply = [UNWRITTEN; 7];
-    // SAFETY: the pointers lead to text.len() bytes and to seven numbers, and do not overlap.
-    unsafe { cec_read_frame(text.as_ptr(), text.len(), reply.as_mut_ptr()) };
-    reply
-}
-
-/// Writes a frame as a line from the start of `out`: refusal number, its line, the line's length.
-pub fn write_frame(kind: u8, fields: [u64; 4], out: &mut [u8]) -> [u64; 3] {
-    let mut reply = [UNWRITTEN; 3];
-    // SAFETY: the pointers lead to four numbers, out.len() bytes and three numbers, and do not
-    // overlap.
-    unsafe {
-        cec_write_frame(
-            kind,
-            fields.as_ptr(),
-            out.as_mut_ptr(),
-            out.len(),
-            reply.as_mut_ptr(),
-        );
-    }
-    reply
-}

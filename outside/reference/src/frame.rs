@@ -156,6 +156,12 @@ impl Frame {
         }
     }
 
+    /// The frame of a line, of any kind of the table; else 3. Which kinds are due, the caller
+    /// knows.
+    pub(crate) fn of_line(line: &Line) -> Result<Self, Refusal> {
+        Self::from_digits(&line.digits).ok_or(Refusal::frame(line.number))
+    }
+
     /// The frame that these digits are. None if the "kind [is] not due here, or length wrong for
     /// it", where every kind of the table is due; no digits are no kind.
     fn from_digits(digits: &[u8]) -> Option<Self> {
@@ -217,12 +223,10 @@ fn number(digits: &[u8]) -> u64 {
 /// A second line is read like any other: a bad byte in it, or no LF, is 2 at line 2.
 pub fn read_frame(text: &[u8]) -> Result<Frame, Refusal> {
     let mut lines = Lines::of(text);
-    let Line { number, digits } = lines.next().ok_or(Refusal::line_bytes(1))??;
-    let frame = Frame::from_digits(&digits).ok_or(Refusal::frame(number))?;
-    match lines.next() {
-        None => Ok(frame),
-        Some(second) => Err(Refusal::frame(second?.number)),
-    }
+    let line = lines.next().ok_or(Refusal::line_bytes(1))??;
+    let frame = Frame::of_line(&line)?;
+    lines.expect_end()?;
+    Ok(frame)
 }
 
 /// Writes a frame and gives the line's length. "Written, it stands with its LF at the buffer's

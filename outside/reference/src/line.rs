@@ -31,6 +31,20 @@ impl<'text> Lines<'text> {
             taken: 0,
         }
     }
+
+    /// The number that the next line has, or would have if the text went on.
+    pub(crate) fn next_number(&self) -> u64 {
+        self.taken + 1
+    }
+
+    /// Refuses a line where the text has to end. Such a line is read like any other: a bad byte in
+    /// it, or no LF, is 2; otherwise it is 3, also if it is empty.
+    pub(crate) fn expect_end(mut self) -> Result<(), Refusal> {
+        match self.next() {
+            None => Ok(()),
+            Some(line) => Err(Refusal::frame(line?.number)),
+        }
+    }
 }
 
 impl Iterator for Lines<'_> {
@@ -95,5 +109,20 @@ mod tests {
     #[test]
     fn no_bytes_are_no_line() {
         assert_eq!(Lines::of(b"").next(), None);
+    }
+
+    #[test]
+    fn a_line_behind_the_end_is_read_before_it_is_refused() {
+        let behind_first = |text| {
+            let mut lines = Lines::of(text);
+            assert!(matches!(lines.next(), Some(Ok(_))));
+            assert_eq!(lines.next_number(), 2);
+            lines.expect_end()
+        };
+        assert_eq!(behind_first(b"0A\n"), Ok(()));
+        assert_eq!(behind_first(b"0A\n\n"), Err(Refusal::frame(2)));
+        assert_eq!(behind_first(b"0A\n0A\nx\n"), Err(Refusal::frame(2)));
+        assert_eq!(behind_first(b"0A\n0A"), Err(Refusal::line_bytes(2)));
+        assert_eq!(behind_first(b"0A\nx\n"), Err(Refusal::line_bytes(2)));
     }
 }

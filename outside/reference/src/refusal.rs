@@ -21,9 +21,30 @@ impl Refusal {
         Self { number: 2, line }
     }
 
-    /// Place 'frame': "kind not due here, or length wrong for it; an empty line".
+    /// Place 'frame': "kind not due here, or length wrong for it; an empty line; lines after a list
+    /// that should be the end".
     pub(crate) fn frame(line: u64) -> Self {
         Self { number: 3, line }
+    }
+
+    /// Place 'end': "text ended where a list's frame is due; line is one past the last".
+    pub(crate) fn end(line: u64) -> Self {
+        Self { number: 4, line }
+    }
+
+    /// Place 'header': "a count outside its range".
+    pub(crate) fn header(line: u64) -> Self {
+        Self { number: 5, line }
+    }
+
+    /// Place 'right header': "inputs or outputs unlike the left".
+    pub(crate) fn right_header(line: u64) -> Self {
+        Self { number: 6, line }
+    }
+
+    /// Place 'gate, output': "a literal over a net not allowed there".
+    pub(crate) fn literal(line: u64) -> Self {
+        Self { number: 7, line }
     }
 
     /// Place 'frame writer': "buffer shorter than the line, or a line number above FFFFFF; line
@@ -31,6 +52,14 @@ impl Refusal {
     pub(crate) fn writer() -> Self {
         Self {
             number: 16,
+            line: 0,
+        }
+    }
+
+    /// Place 'engine or evaluator, lists read': "working memory short; line 0".
+    pub(crate) fn working_memory() -> Self {
+        Self {
+            number: 17,
             line: 0,
         }
     }

@@ -1,6 +1,6 @@
 //! The replies that the header promises, worked out by the reference.
 
-use cec_reference::{Frame, Refusal};
+use cec_reference::{Frame, Netlist, Refusal};
 
 /// The numbers of cec_read_frame's reply.
 pub fn reading(text: &[u8]) -> [u64; 7] {
@@ -21,6 +21,41 @@ pub fn writing(kind: u8, fields: [u64; 4], out: &mut [u8]) -> [u64; 3] {
     };
     match cec_reference::write_frame(&frame, out) {
         Ok(length) => [0, 0, length as u64],
+        Err(Refusal { number, line }) => [number.into(), line, 0],
+    }
+}
+
+/// The numbers of cec_read_list's reply.
+pub fn list_reading(text: &[u8]) -> [u64; 5] {
+    match cec_reference::read_list(text) {
+        Ok(list) => {
+            let [inputs, gates, outputs] = counts(&list);
+            [0, 0, inputs, gates, outputs]
+        }
+        Err(Refusal { number, line }) => [number.into(), line, 0, 0, 0],
+    }
+}
+
+/// The numbers of cec_read_lists' reply.
+pub fn lists_reading(text: &[u8]) -> [u64; 6] {
+    match cec_reference::read_lists(text) {
+        Ok((left, right)) => {
+            let [inputs, left_gates, outputs] = counts(&left);
+            let [_, right_gates, _] = counts(&right);
+            [0, 0, inputs, left_gates, right_gates, outputs]
+        }
+        Err(Refusal { number, line }) => [number.into(), line, 0, 0, 0, 0],
+    }
+}
+
+fn counts(list: &Netlist) -> [u64; 3] {
+    [list.inputs(), list.gates().len(), list.outputs().len()].map(|count| count as u64)
+}
+
+/// The numbers of cec_evaluate's reply; `work` is left as the call has to leave it.
+pub fn evaluating(text: &[u8], pattern: u64, work: &mut [u8]) -> [u64; 3] {
+    match cec_reference::evaluate(text, pattern, work) {
+        Ok(word) => [0, 0, word],
         Err(Refusal { number, line }) => [number.into(), line, 0],
     }
 }

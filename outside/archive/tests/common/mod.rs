@@ -1,9 +1,16 @@
 //! What the comparisons share: random numbers, cases made from them, replies by the reference, and
 //! counts of what the cases reached.
 
+// Each test uses a part of it.
+#![allow(dead_code)]
+
 pub mod calls;
 pub mod expected;
+pub mod list_texts;
+pub mod lists;
+pub mod places;
 pub mod random;
+pub mod samples;
 pub mod tally;
 pub mod texts;
 

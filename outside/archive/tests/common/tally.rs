@@ -18,6 +18,17 @@ impl Tally {
     /// Prints the counts, and fails unless there were enough cases, each of these outcomes was
     /// reached, and no other was.
     pub fn finish(&self, test: &str, at_least: u64, outcomes: &[String]) {
+        self.finish_within(test, at_least, outcomes, outcomes);
+    }
+
+    /// The same where more outcomes are possible than have to be reached.
+    pub fn finish_within(
+        &self,
+        test: &str,
+        at_least: u64,
+        outcomes: &[String],
+        possible: &[String],
+    ) {
         eprintln!("{test}: {} cases: {:?}", self.cases, self.outcomes);
         assert!(
             self.cases >= at_least,
@@ -27,7 +38,7 @@ impl Tally {
             assert!(self.outcomes.contains_key(outcome), "{test}: no {outcome}");
         }
         for outcome in self.outcomes.keys() {
-            assert!(outcomes.contains(outcome), "{test}: unexpected {outcome}");
+            assert!(possible.contains(outcome), "{test}: unexpected {outcome}");
         }
     }
 }

@@ -38,11 +38,16 @@ pub fn damaged(random: &mut Random) -> (String, Vec<u8>) {
     let mut text = line(random, kind);
     let mut names = Vec::new();
     for _ in 0..random.pick(&[1, 1, 2, 3]) {
-        let (name, damage) = random.pick(&DAMAGES);
-        damage(random, &mut text);
-        names.push(name);
+        names.push(damage(random, &mut text));
     }
     (names.join(", "), text)
+}
+
+/// Damages a line or a text in one of the ways, and gives the way's name.
+pub fn damage(random: &mut Random, text: &mut Vec<u8>) -> &'static str {
+    let (name, damage) = random.pick(&DAMAGES);
+    damage(random, text);
+    name
 }
 
 /// A text of up to 100,000 bytes: many digits with or without an LF, alone or behind a whole line,
