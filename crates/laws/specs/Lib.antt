@@ -15,3 +15,4 @@ pub mod Reading
 pub mod Soundness
 pub mod Appending
 pub mod ListText
+pub mod Acceptance
