@@ -20,9 +20,9 @@ use Rattle.frame.specs.declared.Op.{Op}
 use Rattle.frame.specs.declared.Op.the-variants.{And, Xor}
 use Rattle.frame.specs.Frames.{gateKind}
 use Rattle.netlist.specs.declared.again.Gate as again
-use Rattle.netlist.specs.Again.{gateMeant, noGate}
+use Rattle.netlist.specs.Again.{opOf, gateMeant, noGate}
 use Rattle.laws.specs.Growing.{grow-append, length-grow}
-use Rattle.evaluator.specs.Values.{opOf, Holds}
+use Rattle.evaluator.specs.Values.{Holds}
 
 -- ---- bits
 

@@ -7,17 +7,10 @@ use lib.ListN.{length, take}
 use Rattle.model.specs.Limits.{mostInputs, mostGates, mostOutputs}
 use Rattle.model.specs.Answers.{Answer}
 use Rattle.model.specs.Answers.Answer.{ok, refused}
-use Rattle.model.specs.Nets as model
 use Rattle.model.specs.Nets.{bit}
-use Rattle.frame.specs.declared.Op.{Op}
-use Rattle.frame.specs.declared.Op.the-variants.{And, Xor}
 use Rattle.netlist.specs.declared.Counts.{Counts}
 use Rattle.evaluator.specs.declared.Evaluated.{Evaluated}
 use Rattle.evaluator.specs.declared.Evaluated.the-variants.{Word, Refused}
-
-abbrev pub opOf : Op → model.Op
-opOf And = model.Op.and
-opOf Xor = model.Op.xor
 
 -- the bytes begin with the values vs, 1 for true and 0 for false
 abbrev pub Holds : List ℕ → List Bool → Type 0

@@ -11,7 +11,8 @@ ghost use lib.ListN.{length};
 ghost use Rattle.model.specs.Limits.{mostInputs, mostGates, mostOutputs};
 ghost use Rattle.model.specs.Nets.{Netlist, netOf, bit, apply, literal, start, nets, eval};
 ghost use Rattle.laws.specs.ListText.{Stands};
-ghost use Rattle.evaluator.specs.Values.{opOf, Holds};
+ghost use Rattle.netlist.specs.Again.{opOf};
+ghost use Rattle.evaluator.specs.Values.{Holds};
 
 // The value of a literal.
 pub fn literal_at(values: &[u8], l: u16) -> u8

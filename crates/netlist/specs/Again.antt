@@ -3,9 +3,15 @@ use Prim.Native.Nat.{ℕ}
 use Rattle.model.specs.Frames.{xorKind}
 use Rattle.model.specs.Nets as nets
 use Rattle.model.specs.Lists.{gateOf}
+use Rattle.frame.specs.declared.Op.{Op}
+use Rattle.frame.specs.declared.Op.the-variants.{And, Xor}
 use Rattle.frame.specs.declared.Frame.the-variants as frame-case
 use Rattle.frame.specs.Frames.{frameOf}
 use Rattle.netlist.specs.declared.again.Gate.{Gate}
+
+abbrev pub opOf : Op → nets.Op
+opOf And = nets.Op.and
+opOf Xor = nets.Op.xor
 
 -- the gate of the definitions that it is: that of its frame
 abbrev pub gateMeant : Gate → nets.Gate

@@ -1,0 +1,99 @@
+-- The replay of a proof, by what the cursor's reader answers at a line.
+use Prim.Native.Nat.{ℕ, suc}
+use mathlib.Core.Path.{_≡_, refl, sym, ap, _∙_}
+use mathlib.Core.Bool.{Bool, true, false}
+use mathlib.Core.List.{List, [], _∷_}
+use types.Run.{OneOf, miss}
+use denote.Enum.Declared.{tagOf}
+use lib.Dec.{eqb}
+use Rattle.model.specs.Answers.{Answer, guard, bind}
+use Rattle.model.specs.Answers.Answer.{ok, refused}
+use Rattle.model.specs.Lines as model
+use Rattle.model.specs.Frames as frames
+use Rattle.model.specs.Frames.{dueAt, resolveKind}
+use Rattle.model.specs.Steps.{State, Step, step, isStep, stepOf, stepAt, replay}
+use Rattle.model.specs.Steps.Step.{resolve, extend}
+use Rattle.frame.proofs.Frame as frame-type
+use Rattle.frame.proofs.Line as line-type
+use Rattle.frame.specs.declared.Op.{Op}
+use Rattle.frame.specs.declared.Op.the-variants.{And, Xor}
+use Rattle.frame.specs.declared.Frame.{Frame}
+use Rattle.frame.specs.declared.Frame.the-variants.{Header, Gate, Output, Resolve, Extend, Report}
+use Rattle.frame.specs.declared.Line.{Line}
+use Rattle.frame.specs.declared.Line.the-variants.{Read, End, Refused}
+use Rattle.frame.specs.declared.Cursor.{Cursor}
+use Rattle.frame.specs.Frames.{frameOf, first, firstOf}
+use Rattle.frame.proofs.FirstLaws.{first-none, first-fault, first-found, Framed}
+use Rattle.netlist.specs.Says.{from}
+use Rattle.checker.specs.declared.steps.Progress.{Progress}
+use Rattle.checker.specs.Progress.{extension, frameStep, endedOf, Tracks, Within, Says}
+
+-- ---- the step of a frame
+
+pub frame-resolve : (room line : ℕ) (s : State) (a b v : ℕ) → frameStep room line s (frameOf (Resolve a b v)) ≡ step room line s (resolve a b v)
+unfolding frameStep guard
+frame-resolve room line s a b v = refl
+
+pub frame-extend : (room line : ℕ) (s : State) (op : Op) (x y : ℕ) → frameStep room line s (frameOf (Extend op x y)) ≡ step room line s (extension op x y)
+unfolding frameStep guard
+frame-extend room line s And x y = refl
+frame-extend room line s Xor x y = refl
+
+pub frame-other : (room line : ℕ) (s : State) (f : Frame) → OneOf (0 ∷ 1 ∷ 2 ∷ 5 ∷ []) (tagOf frame-type.the-type f)
+    → frameStep room line s (frameOf f) ≡ refused 3 line
+unfolding frameStep guard
+frame-other room line s (Header i g o) k = refl
+frame-other room line s (Gate And x y) k = refl
+frame-other room line s (Gate Xor x y) k = refl
+frame-other room line s (Output l) k = refl
+frame-other room line s (Resolve a b v) k = absurd (miss (0 ∷ 1 ∷ 2 ∷ 5 ∷ []) 3 tt k)
+frame-other room line s (Extend op x y) k = absurd (miss (0 ∷ 1 ∷ 2 ∷ 5 ∷ []) 4 tt k)
+frame-other room line s (Report r n t c) k = refl
+
+-- ---- the lines
+
+-- a line that was read
+by-frame : (room line : ℕ) (s : State) (b : Bool) (f : frames.Frame) (go : State → Answer State)
+    → bind (bind (guard b 3 line (ok f)) (λ g. ok (stepOf (eqb (g .kind) resolveKind) g))) (λ p. bind (step room line s p) go)
+    ≡ bind (guard b 3 line (step room line s (stepOf (eqb (f .kind) resolveKind) f))) go
+unfolding guard
+by-frame room line s true f go = refl
+by-frame room line s false f go = refl
+
+pub replay-read : (room : ℕ) (s : State) (text : List ℕ) (c : Cursor) (got : Line) → firstOf text got ≡ first (from text c) (c .line) → (f : Frame) (next : Cursor)
+    → got ≡ Read f next
+    → replay room s (from text c) (c .line) ≡ bind (frameStep room (c .line) s (frameOf f)) (λ s′. replay room s′ (from text next) (next .line))
+unfolding replay stepAt dueAt frameStep
+replay-read room s text c got e f next is =
+    let r = first-found (from text c) (c .line) (rw is at e) in
+    rw (r .cut, r .frame, r .next-is) (by-frame room (c .line) s (isStep (frameOf f .kind)) (frameOf f) _)
+
+-- no frame stands there
+pub replay-ended : (room : ℕ) (s : State) (text : List ℕ) (c : Cursor) (got : Line) → firstOf text got ≡ first (from text c) (c .line)
+    → OneOf (1 ∷ 2 ∷ []) (tagOf line-type.the-type got) → (store : List ℕ) (p : Progress) → Tracks store p s → Within store p room
+    → Says room (replay room s (from text c) (c .line)) store (endedOf got p)
+unfolding replay stepAt dueAt
+replay-ended room s text c (Read f next) e k store p t w = absurd (miss (1 ∷ 2 ∷ []) 0 tt k)
+replay-ended room s text c End e k store p t w = rw (first-none (from text c) (c .line) e) (s, refl, t, w)
+replay-ended room s text c (Refused number place) e k store p t w =
+    let r = first-fault (from text c) (c .line) e in
+    rw (r .cut, r .refusal)
+
+-- ---- the loop
+
+-- the lines up to a cursor are replayed
+pub record Replayed (room : ℕ) (text : List ℕ) (c₀ : Cursor) (s₀ : State) (store : List ℕ) (c : Cursor) (p : Progress) : Type 0 where
+  pub state : State
+  pub tracks : Tracks store p state
+  pub same : replay room s₀ (from text c₀) (c₀ .line) ≡ replay room state (from text c) (c .line)
+
+-- what a line's answer says of the whole
+pub replay-step : (room : ℕ) (s : State) (text : List ℕ) (c : Cursor) (got : Line) → firstOf text got ≡ first (from text c) (c .line) → (f : Frame) (next : Cursor)
+    → got ≡ Read f next → (s′ : State) → frameStep room (c .line) s (frameOf f) ≡ ok s′
+    → replay room s (from text c) (c .line) ≡ replay room s′ (from text next) (next .line)
+replay-step room s text c got e f next is s′ a = replay-read room s text c got e f next is ∙ rw a
+
+pub replay-refused : (room : ℕ) (s : State) (text : List ℕ) (c : Cursor) (got : Line) → firstOf text got ≡ first (from text c) (c .line) → (f : Frame) (next : Cursor)
+    → got ≡ Read f next → (number line : ℕ) → frameStep room (c .line) s (frameOf f) ≡ refused number line
+    → replay room s (from text c) (c .line) ≡ refused number line
+replay-refused room s text c got e f next is number line a = replay-read room s text c got e f next is ∙ rw a

@@ -1,0 +1,141 @@
+use Prim.Native.Nat.{ℕ, _+_, _-_, _*_, _≤_}
+use mathlib.Core.Path.{_≡_, refl, sym, ap, _∙_, subst}
+use mathlib.Core.Bool.{true, false, _&&_}
+use native.Mathlib.Omega.{arith}
+use denote.Ref.{now}
+use lib.Dec.{leb, ltb}
+use lib.ListN.{length}
+use borrow.Author.Tests.{not-true, not-false}
+use Rattle.model.specs.Answers.{bind}
+use Rattle.model.specs.Steps.{added, isClause}
+use Rattle.checker.specs.Progress.{Tracks, Says}
+use Rattle.checker.proofs.StepLaws.{number, resolvent-rising, first-missing, second-missing, pivot-missing, too-wide, resolvent-added}
+use Rattle.checker.proofs.HeldLaws.{held-rising}
+use borrow.Author.Needs.{needs}
+use Rattle.checker.proofs.steps.resolve_step.Statement.{statement}
+use Rattle.checker.proofs.steps.resolve_step.Tie as tie
+use Rattle.checker.proofs.steps.resolve_step.Reads as reads
+use Rattle.checker.proofs.steps.resolve_step.Lts as lts
+use Rattle.checker.proofs.steps.is_clause.Reads as is-clause-reads
+use Rattle.checker.proofs.steps.push_resolvent.Reads as push-resolvent-reads
+use Rattle.clause.proofs.resolution.resolve.Reads as resolve-reads
+
+is-clause-requires : tie.Need-is-clause-requires
+is-clause-requires c κs = search needs
+
+returns : tie.Need-returns
+returns c s t =
+    let a = c .before .before .before .args in
+    first-missing (a .room) (a .line) s (a .a) (a .b) (a .v) (rw (t .clauses) (sym (c .before .is-clause .ensures) ∙ not-true _ (c .if1 .taken)))
+
+is-clause-requires-2 : tie.Need-is-clause-requires-2
+is-clause-requires-2 c κs = search needs
+
+returns-2 : tie.Need-returns-2
+returns-2 c s t =
+    let a = c .before .before .before .before .before .args in
+    second-missing (a .room) (a .line) s (a .a) (a .b) (a .v) (rw (t .clauses) (sym (c .before .is-clause2 .ensures) ∙ not-true _ (c .if2 .taken)))
+
+sub-resolve : tie.Need-sub-resolve
+sub-resolve c = number _ _ (sym (c .before .before .before .before .is-clause .ensures) ∙ not-false _ (c .before .before .before .if1 .left)) .0
+
+sub-resolve-2 : tie.Need-sub-resolve-2
+sub-resolve-2 c = number _ _ (sym (c .before .before .is-clause2 .ensures) ∙ not-false _ (c .before .if2 .left)) .0
+
+resolve-requires : tie.Need-resolve-requires
+resolve-requires c κs =
+    let a = c .before .before .before .before .before .before .args in
+    let w = c .before .before .before .before .before .before .pre in
+    let na = number (a .p .clauses) (a .a) (sym (c .before .before .before .before .is-clause .ensures) ∙ not-false _ (c .before .before .before .if1 .left)) in
+    let nb = number (a .p .clauses) (a .b) (sym (c .before .before .is-clause2 .ensures) ∙ not-false _ (c .before .if2 .left)) in (
+      omega (arith, w .numbers-for-all, w .clauses),
+      omega (arith, w .numbers-for-all, w .clauses),
+      held-rising (now (a .store)) (w .state .clauses) (w .tracks .held) (a .a - 1) (omega (arith, w .tracks .clauses)),
+      held-rising (now (a .store)) (w .state .clauses) (w .tracks .held) (a .b - 1) (omega (arith, w .tracks .clauses)),
+    )
+
+enum-told : tie.Need-enum-told
+enum-told c = search needs
+
+enum-told-2 : tie.Need-enum-told-2
+enum-told-2 c = search needs
+
+enum-told-3 : tie.Need-enum-told-3
+enum-told-3 c = search needs
+
+push-resolvent-requires : tie.Need-push-resolvent-requires
+push-resolvent-requires c κs =
+    let a = c .before .before .before .before .before .before .before .before .before .before .args in
+    let w = c .before .before .before .before .before .before .before .before .before .before .pre in
+    let na = number (a .p .clauses) (a .a) (sym (c .before .before .before .before .before .before .before .before .is-clause .ensures) ∙ not-false _ (c .before .before .before .before .before .before .before .if1 .left)) in
+    let nb = number (a .p .clauses) (a .b) (sym (c .before .before .before .before .before .before .is-clause2 .ensures) ∙ not-false _ (c .before .before .before .before .before .if2 .left)) in
+    let r = c .before .before .before .resolve in (
+      w,
+      r .ensures .room,
+      r .ensures .size,
+      resolvent-rising (a .v) _ _ (r .result)
+          (held-rising (now (a .store)) (w .state .clauses) (w .tracks .held) (a .a - 1) (omega (arith, w .tracks .clauses)))
+          (held-rising (now (a .store)) (w .state .clauses) (w .tracks .held) (a .b - 1) (omega (arith, w .tracks .clauses)))
+          (r .ensures) (c .before .enum-told3 .given .1),
+    )
+
+same-length : tie.Need-same-length
+same-length c = search needs
+
+returns-3 : tie.Need-returns-3
+returns-3 c s t =
+    let a = c .before .before .before .before .before .before .before .before .before .args in
+    let r = c .before .before .resolve in
+    pivot-missing (a .room) (a .line) s (a .a) (a .b) (a .v) t
+    (rw (t .clauses) (sym (c .before .before .before .before .before .before .before .is-clause .ensures) ∙ not-false _ (c .before .before .before .before .before .before .if1 .left)))
+    (rw (t .clauses) (sym (c .before .before .before .before .before .is-clause2 .ensures) ∙ not-false _ (c .before .before .before .before .if2 .left)))
+    (r .result) (r .ensures) (c .enum-told .given .1)
+
+same-length-2 : tie.Need-same-length-2
+same-length-2 c = search needs
+
+returns-4 : tie.Need-returns-4
+returns-4 c s t =
+    let a = c .before .before .before .before .before .before .before .before .before .args in
+    let r = c .before .before .resolve in
+    too-wide (a .room) (a .line) s (a .a) (a .b) (a .v) t
+    (rw (t .clauses) (sym (c .before .before .before .before .before .before .before .is-clause .ensures) ∙ not-false _ (c .before .before .before .before .before .before .if1 .left)))
+    (rw (t .clauses) (sym (c .before .before .before .before .before .is-clause2 .ensures) ∙ not-false _ (c .before .before .before .before .if2 .left)))
+    (r .result) (r .ensures) (c .enum-told2 .given .1)
+
+same-length-3 : tie.Need-same-length-3
+same-length-3 c = search needs
+
+returns-5 : tie.Need-returns-5
+returns-5 c s t =
+    let a = c .before .before .before .before .before .before .before .before .before .before .before .before .before .args in
+    let r = c .before .before .before .before .before .before .resolve in
+    let q = c .before .before .push-resolvent in
+    rw (
+    resolvent-added (a .room) (a .line) s (a .a) (a .b) (a .v) t
+    (rw (t .clauses) (sym (c .before .before .before .before .before .before .before .before .before .before .before .is-clause .ensures) ∙ not-false _ (c .before .before .before .before .before .before .before .before .before .before .if1 .left)))
+    (rw (t .clauses) (sym (c .before .before .before .before .before .before .before .before .before .is-clause2 .ensures) ∙ not-false _ (c .before .before .before .before .before .before .before .before .if2 .left)))
+    (r .result) (r .ensures) (c .before .before .before .before .enum-told3 .given .1)
+    ) (q .ensures s t)
+
+pub resolve-step-spec : {M : Type 1} → statement M
+resolve-step-spec =
+    tie.close
+    (tie.spec
+    is-clause-requires
+    returns
+    is-clause-requires-2
+    returns-2
+    sub-resolve
+    sub-resolve-2
+    resolve-requires
+    enum-told
+    enum-told-2
+    enum-told-3
+    push-resolvent-requires
+    same-length
+    returns-3
+    same-length-2
+    returns-4
+    same-length-3
+    returns-5)

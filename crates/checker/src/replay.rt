@@ -1,0 +1,79 @@
+// All lines of a proof, one step each (document 01, 'Steps'), up to the end of the text or the first fault.
+use crate::steps::Progress;
+use crate::steps::Stepped;
+use crate::steps::extend_step;
+use crate::steps::resolve_step;
+use frame::Cursor;
+use frame::Frame;
+use frame::Line;
+use frame::read_line;
+use netlist::Refusal;
+ghost use mathlib.Core.Path.{_≡_};
+ghost use Rattle.model.specs.Steps as model;
+ghost use Rattle.model.specs.Steps.{State};
+ghost use Rattle.frame.specs.Frames.{frameOf, Inside};
+ghost use Rattle.netlist.specs.Says.{from};
+ghost use Rattle.checker.specs.Progress.{Tracks, Within, Says, frameStep, endedOf};
+
+// The step that a frame means: 3 unless it is a step.
+fn frame_step(store: &mut [u16], p: Progress, room: usize, line: usize, frame: Frame) -> Stepped
+    requires { ⌜ Within (now store) p room ⌝ }
+    ensures { λ r. ⌜ ((s : State) → Tracks (now (store .entry)) p s → Says room (frameStep room line s (frameOf frame)) (now (store .exit)) r) ⌝ }
+{
+    match frame {
+        Frame::Resolve {
+            first,
+            second,
+            variable,
+        } => resolve_step(
+            store,
+            p,
+            room,
+            line,
+            first as usize,
+            second as usize,
+            variable,
+        ),
+        Frame::Extend { op, x, y } => extend_step(store, p, room, line, op, x, y),
+        _ => Stepped::Refused(Refusal { number: 3, line }),
+    }
+}
+
+// Where no frame stands: the end of the proof, or the line's refusal.
+fn ended(got: Line, p: Progress) -> Stepped
+    ensures { λ r. ⌜ r ≡ endedOf got p ⌝ }
+{
+    match got {
+        Line::Refused { number, line } => Stepped::Refused(Refusal { number, line }),
+        Line::End => Stepped::Done(p),
+        Line::Read(_, _) => Stepped::Done(p),
+    }
+}
+
+// The lines from a cursor on.
+pub fn replay(
+    text: &[u8],
+    cursor: Cursor,
+    store: &mut [u16],
+    start: Progress,
+    room: usize,
+) -> Stepped
+    requires { ⌜ Inside (now text) cursor × Within (now store) start room ⌝ }
+    ensures { λ r. ⌜ ((s : State) → Tracks (now (store .entry)) start s → Says room (model.replay room s (from (now (text .entry)) cursor) (cursor .line)) (now (store .exit)) r) ⌝ }
+{
+    let mut c = cursor;
+    let mut p = start;
+    loop {
+        let line = c.line;
+        let got = read_line(text, c);
+        let Line::Read(frame, next) = got else {
+            return ended(got, p);
+        };
+        let stepped = frame_step(store, p, room, line, frame);
+        let Stepped::Done(q) = stepped else {
+            return stepped;
+        };
+        c = next;
+        p = q;
+    }
+}
