@@ -1,3 +1,5 @@
 pub mod HeldLaws
 pub mod StepLaws
 pub mod ReplayLaws
+pub mod MiterLaws
+pub mod BeginLaws

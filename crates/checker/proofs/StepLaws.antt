@@ -42,7 +42,7 @@ extended op x y s =
       empty = false;
     }
 
-gate-clauses : (op : Op) (t x y : ℕ) → gateClauses t (record { op = opOf op; x = x; y = y }) ≡ clausesOf op (positive t) x y
+pub gate-clauses : (op : Op) (t x y : ℕ) → gateClauses t (record { op = opOf op; x = x; y = y }) ≡ clausesOf op (positive t) x y
 unfolding opClauses
 gate-clauses And t x y = refl
 gate-clauses Xor t x y = refl

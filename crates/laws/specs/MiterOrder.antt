@@ -79,7 +79,7 @@ module _ (a b : Netlist) (ab : Pair a b) where
   length-gates : length (gatesOf a b) ≡ length (a .gates) + length (b .gates)
   length-gates = simp (length-append, length-map)
 
-  length-z : length (zGates a b) ≡ length (a .outs)
+  pub length-z : length (zGates a b) ≡ length (a .outs)
   length-z = length-zs (a .inputs) (length (a .gates)) (a .outs) (b .outs) (ab .outs)
 
   -- the variables up to the first w
@@ -108,6 +108,13 @@ module _ (a b : Netlist) (ab : Pair a b) where
         w-at,
         ab .left .some,
       )
+
+  -- how many gates the miter has
+  pub length-miter : length (miterGates a b) ≡ length (a .gates) + length (b .gates) + length (a .outs) + (length (a .outs) - 1)
+  unfolding miterGates
+  length-miter =
+      length-append (gatesOf a b ++ zGates a b) (wGates a b)
+      ∙ rw (length-to-w, length-ws (length (a .outs) - 1) (firstW a b) (firstZ a b) (suc (firstZ a b)))
 
   -- the gates of both lists are in order
   ordered-gates : Ordered (firstGate a) (gatesOf a b)
