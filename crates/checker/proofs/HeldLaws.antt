@@ -20,7 +20,7 @@ use Rattle.checker.specs.Progress.{clausesOf, Proper, AllProper, Held}
 stored-width : (c : Clause) → length c ≤ clauseWidth → length (stored c) ≡ clauseWidth
 stored-width c h = simp (length-append, length-map, length-replicate) (omega arith)
 
-all-width : (cs : List Clause) → AllProper cs → length (storedAll cs) ≡ clauseWidth * length cs
+pub all-width : (cs : List Clause) → AllProper cs → length (storedAll cs) ≡ clauseWidth * length cs
 unfolding storedAll
 all-width [] p = omega arith
 all-width (c ∷ cs) p = rw (length-append, stored-width c (p .0 .width), all-width cs (p .1)) (omega arith)

@@ -1,0 +1,31 @@
+-- Zeros from a place on, one by one.
+use Prim.Native.Nat.{ℕ, suc, zero, _+_, _-_, _≤_, _<_}
+use mathlib.Core.Path.{_≡_, refl, sym, ap, _∙_}
+use mathlib.Core.List.{List, [], _∷_, _++_, append-nil}
+use native.Mathlib.Omega.{arith}
+use borrow.Author.Fill.{fill-more}
+use lib.ListN.{length, take, drop, set, length-drop, take-append-drop, drop-of-length-le}
+use lib.Seq.{length-take-le}
+use Rattle.model.specs.Answers.{zeros}
+
+pub from-none : (s : List ℕ) (from : ℕ) → s ≡ take from s ++ (zeros 0 ++ drop 0 (drop from s))
+from-none s from = sym (take-append-drop from s)
+
+-- a place behind a first part
+set-behind : (xs ys : List ℕ) (n v : ℕ) → set (xs ++ ys) (length xs + n) v ≡ xs ++ set ys n v
+set-behind [] ys n v = ap (λ (k : ℕ). set ys k v) (omega arith)
+set-behind (x ∷ xs) ys n v =
+    let e : suc (length xs) + n ≡ suc (length xs + n) = omega arith in
+    rw e (ap (λ (l : List ℕ). x ∷ l) (set-behind xs ys n v))
+
+pub from-more : (s : List ℕ) (from k : ℕ) → from + k < length s
+    → set (take from s ++ (zeros k ++ drop k (drop from s))) (from + k) 0 ≡ take from s ++ (zeros (k + 1) ++ drop (k + 1) (drop from s))
+from-more s from k h =
+    let e : from + k ≡ length (take from s) + k = omega (arith, length-take-le from s (omega arith)) in
+    rw e (set-behind (take from s) (zeros k ++ drop k (drop from s)) k 0
+    ∙ ap (λ (l : List ℕ). take from s ++ l) (fill-more k 0 (drop from s) (omega (arith, length-drop from s))))
+
+pub from-all : (s : List ℕ) (from k : ℕ) → length s ≡ from + k → take from s ++ (zeros k ++ drop k (drop from s)) ≡ take from s ++ zeros (length s - from)
+from-all s from k h =
+    let e : length s - from ≡ k = omega arith in
+    rw (e, drop-of-length-le (drop from s) {i = k} (omega (arith, length-drop from s)), append-nil (zeros k))

@@ -1,0 +1,134 @@
+-- The verdict, by what the reader of both lists, the miter's writer and the replay answer.
+use Prim.Native.Nat.{ℕ, _+_, _-_, _*_, _≤_, _<_}
+use mathlib.Core.Path.{_≡_, refl, sym, ap, _∙_, subst}
+use mathlib.Core.Bool.{Bool, true, false}
+use mathlib.Core.List.{List, [], _∷_, _++_}
+use native.Mathlib.Omega.{arith}
+use types.Run.{OneOf, miss}
+use denote.Enum.Declared.{tagOf}
+use lib.Dec.{leb}
+use lib.ListN.{length, take, drop, length-append, length-drop}
+use Rattle.model.specs.Answers.{Answer, guard, bind, zeros, filled}
+use Rattle.model.specs.Answers.Answer.{ok, refused}
+use Rattle.model.specs.Limits.{clauseWidth, mostClauses}
+use Rattle.model.specs.Lines.{Line, lines}
+use Rattle.model.specs.Nets.{Netlist}
+use Rattle.model.specs.Lists.{ListsRead, Lists, readBoth, anyHeader, likeLeft}
+use Rattle.model.specs.Miter.{miter}
+use Rattle.model.specs.Steps.{State, replay}
+use Rattle.model.specs.Checker.{begin, verdictOn, capacity, check, storedAll}
+use Rattle.laws.specs.Reading.{both-good}
+use Rattle.laws.specs.ListText.{Stands, listText, list-length, list-stands}
+use Rattle.netlist.proofs.Both as both-type
+use Rattle.netlist.specs.declared.Pair.{Pair}
+use Rattle.netlist.specs.declared.Both.{Both}
+use Rattle.netlist.specs.declared.Both.the-variants.{Paired, Refused}
+use Rattle.netlist.specs.Says.{BothRead, BothSays, from}
+use Rattle.checker.specs.declared.steps.Progress.{Progress}
+use Rattle.checker.specs.Progress.{Tracks}
+use Rattle.checker.proofs.HeldLaws.{all-width}
+use Rattle.checker.specs.Miters as miters
+use Rattle.checker.specs.Miters.{beginOf}
+use Rattle.checker.specs.Verdicts.{bothRefusal}
+
+-- ---- the lists
+
+abbrev pub readOf : {text : List ℕ} {p : Pair} → BothRead text p → ListsRead
+readOf b = record { lists = record { left = b .left .list; right = b .right .list }; rest = b .right .rest; line = b .right .line }
+
+pub read-is : {text : List ℕ} {p : Pair} (b : BothRead text p) → readBoth text ≡ ok (readOf b)
+unfolding readBoth
+read-is b = rw (b .first, b .second)
+
+-- a list has bytes, so its place is in the text
+pub stands-inside : (text : List ℕ) (place : ℕ) (n : Netlist) → Stands (drop place text) n → place ≤ length text
+stands-inside text place n s =
+    omega (arith, length-drop place text, ap length (s .text), length-append (listText n) (s .rest), list-length n)
+
+abbrev pub lists-of : {text : List ℕ} {p : Pair} → BothRead text p → miters.Lists text p
+lists-of {text} {p} b =
+    let right : Stands (drop (p .place) text) (b .right .list) =
+    list-stands (likeLeft (b .left .list)) (drop (p .place) text) (b .left .line) (b .right) (rw (sym (b .place)) (b .second)) .stands in
+    record {
+      left = b .left .list;
+      right = b .right .list;
+      alike = both-good text (readOf b) (read-is b);
+      left-stands = list-stands anyHeader text 1 (b .left) (b .first) .stands;
+      right-stands = right;
+      place = stands-inside text (p .place) (b .right .list) right;
+      inputs = b .left-listed .inputs;
+      left-gates = b .left-listed .gates;
+      right-gates = b .right-listed .gates;
+      outputs = b .left-listed .outputs;
+    }
+
+-- ---- the verdict
+
+-- the numbers of a store have room for as many clauses as it holds
+pub capacity-fits : (n : ℕ) → (clauseWidth * capacity n ≤ n) × (capacity n ≤ mostClauses)
+capacity-fits n = (omega arith, omega arith)
+
+-- what is left once the miter's clauses are written
+abbrev pub ending : ℕ → List Line → ℕ → State → Answer State
+ending room ls line s₀ = bind (replay room s₀ ls line) λ s. guard (s .empty) 15 0 (ok s)
+
+by-begin : (room : ℕ) (l : Lists) (ls : List Line) (line : ℕ) → verdictOn room l ls line ≡ bind (beginOf room (l .left) (l .right)) (ending room ls line)
+unfolding verdictOn beginOf guard
+by-begin room l ls line = go (leb (length (miter (l .left) (l .right))) room)
+  where
+    go : (x : Bool) → guard x 8 0 (ending room ls line (begin (l .left) (l .right))) ≡ bind (guard x 8 0 (ok (begin (l .left) (l .right)))) (ending room ls line)
+    go true = refl
+    go false = refl
+
+module _ {text : List ℕ} {p : Pair} (b : BothRead text p) (n room : ℕ) (is : room ≡ capacity n) where
+  check-is : check text n ≡ bind (beginOf room (b .left .list) (b .right .list)) (ending room (from text (p .next)) (p .next .line))
+  unfolding check
+  check-is =
+      rw (read-is b, sym is)
+      (by-begin room (record { left = b .left .list; right = b .right .list }) (b .right .rest) (b .right .line)
+      ∙ rw (b .right-listed .rest, b .right-listed .line))
+
+  pub begin-refused : (number line : ℕ) → beginOf room (b .left .list) (b .right .list) ≡ refused number line → check text n ≡ refused number line
+  begin-refused number line e = check-is ∙ rw e
+
+  module _ (s₀ : State) (begun : beginOf room (b .left .list) (b .right .list) ≡ ok s₀) where
+    pub replay-refused : (number line : ℕ) → replay room s₀ (from text (p .next)) (p .next .line) ≡ refused number line
+        → check text n ≡ refused number line
+    replay-refused number line e = check-is ∙ rw (begun, e)
+
+    replayed : (s : State) → replay room s₀ (from text (p .next)) (p .next .line) ≡ ok s → check text n ≡ guard (s .empty) 15 0 (ok s)
+    replayed s e = check-is ∙ rw (begun, e)
+
+    pub not-empty : (s : State) → replay room s₀ (from text (p .next)) (p .next .line) ≡ ok s → s .empty ≡ false → check text n ≡ refused 15 0
+    unfolding guard
+    not-empty s e f = replayed s e ∙ rw f
+
+    pub accepted : (s : State) → replay room s₀ (from text (p .next)) (p .next .line) ≡ ok s → s .empty ≡ true → check text n ≡ ok s
+    unfolding guard
+    accepted s e f = replayed s e ∙ rw f
+
+-- where the lists are refused
+pub unread : (text : List ℕ) (n : ℕ) (got : Both) → BothSays text got → OneOf (1 ∷ []) (tagOf both-type.the-type got)
+    → check text n ≡ refused (bothRefusal got .number) (bothRefusal got .line)
+unfolding check
+unread text n (Paired p) b k = absurd (miss (1 ∷ []) 0 tt k)
+unread text n (Refused r) b k = rw b
+
+-- ---- the store afterwards
+
+pub kept : (store : List ℕ) (p : Progress) (s : State) → Tracks store p s
+    → take (clauseWidth * p .clauses) store ++ zeros (length store - clauseWidth * p .clauses)
+    ≡ storedAll (s .clauses) ++ zeros (length store - length (storedAll (s .clauses)))
+kept store p s t =
+    let e : clauseWidth * p .clauses ≡ clauseWidth * length (s .clauses) = omega (arith, t .clauses) in
+    rw (e, t .held .same, all-width (s .clauses) (t .held .proper))
+
+-- the same of a store that had n numbers before
+pub kept-as : (store last : List ℕ) (p : Progress) (s : State) (n : ℕ) → Tracks store p s → length store ≡ n
+    → last ≡ take (clauseWidth * p .clauses) store ++ zeros (length store - clauseWidth * p .clauses) → last ≡ filled n (storedAll (s .clauses))
+kept-as store last p s n t e is = is ∙ kept store p s t ∙ rw e
+
+pub cleared : (store last : List ℕ) (n : ℕ) → length store ≡ n → last ≡ take 0 store ++ zeros (length store - 0) → last ≡ zeros n
+cleared store last n e is =
+    let all : length store - 0 ≡ n = omega arith in
+    is ∙ rw all

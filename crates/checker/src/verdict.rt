@@ -1,0 +1,61 @@
+// The verdict on a text: both lists are read, the miter's clauses written, and the proof's lines replayed.
+use crate::begin::begin;
+use crate::replay::replay;
+use crate::steps::Stepped;
+use clause::Clause;
+use netlist::Both;
+use netlist::Refusal;
+use netlist::read_both;
+ghost use mathlib.Core.Path.{_≡_};
+ghost use lib.ListN.{length};
+ghost use Rattle.model.specs.Checker as model;
+ghost use Rattle.checker.specs.Verdicts.{bothRefusal, VerdictSays};
+
+pub const MOST_CLAUSES: usize = 65535;
+
+// How many clauses a store of so many numbers holds.
+fn capacity(numbers: usize) -> usize
+    ensures { λ r. ⌜ r ≡ model.capacity numbers ⌝ }
+{
+    let eights = numbers / Clause::WIDTH;
+    if MOST_CLAUSES < eights {
+        return MOST_CLAUSES;
+    }
+    eights
+}
+
+// The refusal of two lists, to be handed upward.
+fn refusal(lists: Both) -> Refusal
+    ensures { λ r. ⌜ r ≡ bothRefusal lists ⌝ }
+{
+    match lists {
+        Both::Paired(_) => Refusal { number: 0, line: 0 },
+        Both::Refused(r) => r,
+    }
+}
+
+// The verdict, with the clauses left in the store.
+pub fn verdict(text: &[u8], store: &mut [u16]) -> Stepped
+    ensures { λ r. ⌜ VerdictSays (model.check (now (text .entry)) (length (now (store .entry)))) (now (store .exit)) r ⌝ }
+{
+    let room = capacity(store.len());
+    let lists = read_both(text);
+    let Both::Paired(pair) = lists else {
+        return Stepped::Refused(refusal(lists));
+    };
+    let begun = begin(text, pair, store, room);
+    let Stepped::Done(start) = begun else {
+        return begun;
+    };
+    let replayed = replay(text, pair.next, store, start, room);
+    let Stepped::Done(p) = replayed else {
+        return replayed;
+    };
+    if !p.empty {
+        return Stepped::Refused(Refusal {
+            number: 15,
+            line: 0,
+        });
+    }
+    Stepped::Done(p)
+}
