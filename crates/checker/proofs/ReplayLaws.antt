@@ -1,6 +1,6 @@
 -- The replay of a proof, by what the cursor's reader answers at a line.
-use Prim.Native.Nat.{ℕ, suc}
-use mathlib.Core.Path.{_≡_, refl, sym, ap, _∙_}
+use Prim.Native.Nat.{ℕ}
+use mathlib.Core.Path.{_≡_, refl, _∙_}
 use mathlib.Core.Bool.{Bool, true, false}
 use mathlib.Core.List.{List, [], _∷_}
 use types.Run.{OneOf, miss}
@@ -11,8 +11,8 @@ use Rattle.model.specs.Answers.Answer.{ok, refused}
 use Rattle.model.specs.Lines as model
 use Rattle.model.specs.Frames as frames
 use Rattle.model.specs.Frames.{dueAt, resolveKind}
-use Rattle.model.specs.Steps.{State, Step, step, isStep, stepOf, stepAt, replay}
-use Rattle.model.specs.Steps.Step.{resolve, extend}
+use Rattle.model.specs.Steps.{State, step, isStep, stepOf, stepAt, replay}
+use Rattle.model.specs.Steps.Step.{resolve}
 use Rattle.frame.proofs.Frame as frame-type
 use Rattle.frame.proofs.Line as line-type
 use Rattle.frame.specs.declared.Op.{Op}
@@ -23,7 +23,7 @@ use Rattle.frame.specs.declared.Line.{Line}
 use Rattle.frame.specs.declared.Line.the-variants.{Read, End, Refused}
 use Rattle.frame.specs.declared.Cursor.{Cursor}
 use Rattle.frame.specs.Frames.{frameOf, first, firstOf}
-use Rattle.frame.proofs.FirstLaws.{first-none, first-fault, first-found, Framed}
+use Rattle.frame.proofs.FirstLaws.{first-none, first-fault, first-found}
 use Rattle.netlist.specs.Says.{from}
 use Rattle.checker.specs.declared.steps.Progress.{Progress}
 use Rattle.checker.specs.Progress.{extension, frameStep, endedOf, Tracks, Within, Says}

@@ -8,7 +8,7 @@ use lib.ListN.{length, length-append}
 use lib.Dec.{eqb, leb, ltb}
 use lib.Seq.{sets}
 use borrow.Author.Tests.{ltb-true, leb-true, lt-ltb, le-ltb, le-leb, lt-leb, ne-eqb}
-use Rattle.model.specs.Limits.{highestVariable, clauseWidth, mostClauses}
+use Rattle.model.specs.Limits.{highestVariable, clauseWidth}
 use Rattle.model.specs.Answers.{guard, bind}
 use Rattle.model.specs.Answers.Answer.{ok, refused}
 use Rattle.model.specs.Nets.{isBelow}

@@ -1,6 +1,6 @@
 -- The verdict, by what the reader of both lists, the miter's writer and the replay answer.
-use Prim.Native.Nat.{ℕ, _+_, _-_, _*_, _≤_, _<_}
-use mathlib.Core.Path.{_≡_, refl, sym, ap, _∙_, subst}
+use Prim.Native.Nat.{ℕ, _+_, _-_, _*_, _≤_}
+use mathlib.Core.Path.{_≡_, refl, sym, ap, _∙_}
 use mathlib.Core.Bool.{Bool, true, false}
 use mathlib.Core.List.{List, [], _∷_, _++_}
 use native.Mathlib.Omega.{arith}
@@ -11,7 +11,7 @@ use lib.ListN.{length, take, drop, length-append, length-drop}
 use Rattle.model.specs.Answers.{Answer, guard, bind, zeros, filled}
 use Rattle.model.specs.Answers.Answer.{ok, refused}
 use Rattle.model.specs.Limits.{clauseWidth, mostClauses}
-use Rattle.model.specs.Lines.{Line, lines}
+use Rattle.model.specs.Lines.{Line}
 use Rattle.model.specs.Nets.{Netlist}
 use Rattle.model.specs.Lists.{ListsRead, Lists, readBoth, anyHeader, likeLeft}
 use Rattle.model.specs.Miter.{miter}

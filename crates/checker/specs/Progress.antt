@@ -14,7 +14,6 @@ use Rattle.model.specs.Checker.{storedAll}
 use Rattle.model.specs.Frames.{Frame, resolveKind}
 use Rattle.frame.specs.declared.Line.{Line}
 use Rattle.frame.specs.declared.Line.the-variants as line-case
-use Rattle.netlist.specs.declared.Refusal.{Refusal}
 use Rattle.netlist.specs.Again.{opOf}
 use Rattle.frame.specs.declared.Op.{Op}
 use Rattle.frame.specs.declared.Op.the-variants.{And, Xor}

@@ -7,7 +7,7 @@ use netlist::again::gate_at;
 use netlist::again::output_at;
 ghost use mathlib.Core.Path.{_≡_};
 ghost use Prim.Native.Nat.{_+_, _-_, _<_, _≤_};
-ghost use lib.ListN.{getD, length};
+ghost use lib.ListN.{getD};
 ghost use Rattle.model.specs.Limits.{mostGates, mostOutputs};
 ghost use Rattle.model.specs.Miter as model;
 ghost use Rattle.netlist.specs.Again.{noGate};

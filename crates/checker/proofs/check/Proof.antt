@@ -1,4 +1,5 @@
-use mathlib.Core.Path.{_≡_, refl}
+-- The verdict's clauses stay and zeros come behind them, or zeros come everywhere; acceptance is sound by `laws/Soundness`.
+use mathlib.Core.Path.{_≡_}
 use native.Mathlib.Omega.{arith}
 use denote.Ref.{now}
 use lib.ListN.{length}

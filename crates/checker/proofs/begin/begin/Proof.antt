@@ -1,3 +1,5 @@
+-- The first clause, those of every variable, the last one: each contract takes up where the one before ends, and every way out is 8 or the
+-- state before the first step (`BeginLaws`).
 use mathlib.Core.Path.{_≡_, refl, sym}
 use mathlib.Core.List.{[]}
 use native.Mathlib.Omega.{arith}

@@ -1,3 +1,4 @@
+-- Without room for the last clause it is 8; else the miter is whole (`BeginLaws`).
 use mathlib.Core.Path.{_≡_}
 use native.Mathlib.Omega.{arith}
 use denote.Ref.{now}

@@ -1,3 +1,4 @@
+-- A clause of one literal is what the store holds next (`BeginLaws`).
 use denote.Ref.{now}
 use Rattle.checker.proofs.BeginLaws.{unit-clause, unit-proper, unit-held}
 use borrow.Author.Needs.{needs}

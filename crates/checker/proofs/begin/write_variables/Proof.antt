@@ -1,10 +1,10 @@
-use Prim.Native.Nat.{ℕ, _+_, _-_, _≤_, _<_}
-use mathlib.Core.Path.{_≡_, refl, sym, ap, _∙_, subst}
+-- The invariant: of whatever two lists stand in the text, the store holds the first clause and those of the first i variables.
+use Prim.Native.Nat.{ℕ, _-_, _≤_, _<_}
+use mathlib.Core.Path.{_≡_, refl, sym, _∙_, subst}
 use native.Mathlib.Omega.{arith}
 use borrow.Author.Needs.{needs}
-use denote.Ref.{now}
 use lib.ListN.{length}
-use Rattle.checker.specs.Progress.{Held, clausesOf}
+use Rattle.checker.specs.Progress.{Held}
 use Rattle.checker.specs.Miters.{Lists, gatesUpTo}
 use Rattle.checker.proofs.StepLaws.{few}
 use Rattle.checker.proofs.BeginLaws.{none-yet, variable-held, variable-short}

@@ -1,3 +1,4 @@
+-- The invariant: k zeros from the place on, and behind them what the store held (`ClearLaws`). The measure is what is left of it.
 use Prim.Native.Nat.{_+_, _-_, _≤_}
 use mathlib.Core.Path.{_≡_, refl, _∙_}
 use mathlib.Core.List.{_++_}

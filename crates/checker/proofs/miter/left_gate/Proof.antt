@@ -1,3 +1,4 @@
+-- The gate read again is the list's, and it reads nets below its own (`MiterLaws`).
 use Prim.Native.Nat.{_+_}
 use mathlib.Core.Path.{_≡_, refl}
 use native.Mathlib.Omega.{arith}

@@ -1,5 +1,6 @@
+-- The gate read again is the list's, and its shifted literals are over variables below its own (`MiterLaws`).
 use Prim.Native.Nat.{ℕ, _+_, _<_}
-use mathlib.Core.Path.{_≡_, refl, sym}
+use mathlib.Core.Path.{_≡_, sym}
 use native.Mathlib.Omega.{arith}
 use lib.ListN.{getD}
 use Rattle.model.specs.Nets.{Gate, netOf}

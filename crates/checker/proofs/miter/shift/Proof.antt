@@ -1,3 +1,4 @@
+-- Inputs stay, gates go behind the left list's (`MiterLaws`).
 use native.Mathlib.Omega.{arith}
 use Rattle.checker.proofs.MiterLaws.{shift-input, shift-gate}
 use borrow.Author.Needs.{needs}

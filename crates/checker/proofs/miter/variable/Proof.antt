@@ -1,3 +1,4 @@
+-- Each range of numbers is one part of the miter's gates (`MiterLaws`).
 use native.Mathlib.Omega.{arith}
 use Rattle.checker.proofs.MiterLaws.{left-variable, right-variable, z-variable, w-variable}
 use borrow.Author.Needs.{needs}

@@ -1,3 +1,4 @@
+-- An OR is an AND of complements (`MiterLaws`).
 use native.Mathlib.Omega.{arith}
 use Rattle.checker.proofs.MiterLaws.{w-low, w-defines}
 use borrow.Author.Needs.{needs}

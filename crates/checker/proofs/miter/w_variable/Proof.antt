@@ -1,3 +1,4 @@
+-- Behind the first, the w before it is one variable back (`MiterLaws`).
 use Rattle.checker.proofs.MiterLaws.{w-behind}
 use borrow.Author.Needs.{needs}
 use Rattle.checker.proofs.miter.w_variable.Statement.{statement}

@@ -1,5 +1,6 @@
+-- Both outputs read again are the lists', and they are over variables in use (`MiterLaws`).
 use Prim.Native.Nat.{ℕ, _+_}
-use mathlib.Core.Path.{_≡_, sym}
+use mathlib.Core.Path.{sym}
 use native.Mathlib.Omega.{arith}
 use Rattle.model.specs.Nets.{size}
 use Rattle.laws.specs.ListText.{below-at}

@@ -1,3 +1,4 @@
+-- Each case is the definition's own.
 use borrow.Author.Needs.{needs}
 use Rattle.checker.proofs.replay.ended.Statement.{statement}
 use Rattle.checker.proofs.replay.ended.Tie as tie

@@ -1,3 +1,4 @@
+-- A resolve, an extension, or any other frame (`ReplayLaws`).
 use Rattle.checker.proofs.ReplayLaws.{frame-resolve, frame-extend, frame-other}
 use borrow.Author.Needs.{needs}
 use Rattle.checker.proofs.replay.frame_step.Statement.{statement}

@@ -1,12 +1,14 @@
+-- The invariant: the store stands for the state after the lines up to the cursor, and replaying the others from it comes to what replaying
+-- all comes to (`ReplayLaws`). The measure is what is left of the text.
 use Prim.Native.Nat.{_-_}
-use mathlib.Core.Path.{_≡_, refl, sym, ap, _∙_, subst}
+use mathlib.Core.Path.{_≡_, refl, _∙_}
 use native.Mathlib.Omega.{arith}
 use borrow.Author.Needs.{needs}
 use denote.Ref.{now}
 use lib.ListN.{length}
 use Rattle.model.specs.Steps.{State}
 use Rattle.frame.specs.Frames.{Inside}
-use Rattle.checker.specs.Progress.{Tracks, Within, Says}
+use Rattle.checker.specs.Progress.{Tracks, Within}
 use Rattle.checker.proofs.ReplayLaws.{Replayed, replay-ended, replay-step, replay-refused}
 use Rattle.checker.proofs.replay.replay.Statement.{statement}
 use Rattle.checker.proofs.replay.replay.Tie as tie

@@ -1,4 +1,4 @@
-use mathlib.Core.Path.{_≡_, refl, sym}
+-- Both tests are the definition's.
 use native.Mathlib.Omega.{arith}
 use borrow.Author.Tests.{lt-ltb}
 use Rattle.checker.proofs.steps.is_clause.Statement.{statement}

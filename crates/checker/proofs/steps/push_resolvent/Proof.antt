@@ -1,8 +1,7 @@
-use Prim.Native.Nat.{ℕ, _+_, _*_, _≤_}
-use mathlib.Core.Path.{_≡_, refl, sym, ap, _∙_, subst}
+-- Without room it is 14; else the resolvent is what the store holds next (`StepLaws`).
+use Prim.Native.Nat.{_+_, _*_}
+use mathlib.Core.Path.{refl}
 use native.Mathlib.Omega.{arith}
-use denote.Ref.{now}
-use lib.ListN.{length}
 use lib.Seq.{length-sets}
 use lib.Dec.{eqb}
 use Rattle.clause.specs.Sets.{literalsOf}

@@ -1,14 +1,9 @@
-use Prim.Native.Nat.{ℕ, _+_, _-_, _*_, _≤_}
-use mathlib.Core.Path.{_≡_, refl, sym, ap, _∙_, subst}
-use mathlib.Core.Bool.{true, false, _&&_}
+-- Both numbers are tested, then the step on the two clauses answers for 10, 11 and the resolvent (`StepLaws`).
+use Prim.Native.Nat.{_-_}
+use mathlib.Core.Path.{sym, _∙_}
 use native.Mathlib.Omega.{arith}
 use denote.Ref.{now}
-use lib.Dec.{leb, ltb}
-use lib.ListN.{length}
 use borrow.Author.Tests.{not-true, not-false}
-use Rattle.model.specs.Answers.{bind}
-use Rattle.model.specs.Steps.{added, isClause}
-use Rattle.checker.specs.Progress.{Tracks, Says}
 use Rattle.checker.proofs.StepLaws.{number, resolvent-rising, first-missing, second-missing, pivot-missing, too-wide, resolvent-added}
 use Rattle.checker.proofs.HeldLaws.{held-rising}
 use borrow.Author.Needs.{needs}

@@ -1,3 +1,4 @@
+-- Each case is the definition's own.
 use borrow.Author.Needs.{needs}
 use Rattle.checker.proofs.verdict.refusal.Statement.{statement}
 use Rattle.checker.proofs.verdict.refusal.Tie as tie

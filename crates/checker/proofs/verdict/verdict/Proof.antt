@@ -1,4 +1,5 @@
-use mathlib.Core.Path.{_≡_, _∙_}
+-- Reader, miter and replay in turn: where one refuses, so does the definition, and behind the last the empty clause decides (`VerdictLaws`).
+use mathlib.Core.Path.{_∙_}
 use native.Mathlib.Omega.{arith}
 use borrow.Author.Tests.{not-true, not-false}
 use denote.Ref.{now}
