@@ -1,5 +1,5 @@
-// One step over the clause store, and all lines of a proof. The store holds the clauses from its start, eight numbers each; the rest of it is
-// of no account here. No work on a line depends on the size of the store.
+// One step over the clause store. The store holds the clauses from its start, eight numbers each; the rest of it is of no account here. No
+// work on a step depends on the size of the store.
 use clause::Clause;
 use clause::Literal;
 use clause::gates::AND_CLAUSES;
