@@ -1,9 +1,9 @@
 -- A store that holds clauses: clause k is in its eight, and a clause saved behind the last is held too.
 use Prim.Native.Nat.{ℕ, zero, suc, _+_, _-_, _*_, _≤_, _<_}
 use mathlib.Core.Path.{_≡_, refl, sym, ap, _∙_}
-use mathlib.Core.List.{List, [], _∷_, _++_, map, append-assoc, append-nil}
+use mathlib.Core.List.{List, [], _∷_, _++_, append-assoc, append-nil}
 use native.Mathlib.Omega.{arith}
-use lib.ListN.{length, take, drop, getD, replicate, length-append, length-map, length-replicate, take-append-drop}
+use lib.ListN.{length, take, drop, getD, length-append, take-append-drop}
 use native.Mathlib.Numerals.{add-one}
 use lib.Dec.{ltb, eqb}
 use lib.Seq.{sets, sets-eq, length-sets, take-at, take-suc, length-take-le, drop-append-add}
@@ -12,18 +12,16 @@ use Rattle.model.specs.Clauses.{Clause, neg, insert, join, clauseOf, andClauses
 use Rattle.laws.specs.Bools.{by-cond}
 use Rattle.model.specs.Checker.{stored, storedAll}
 use Rattle.clause.specs.Sets.{Rising, clauseIn, clauseAt}
+use Rattle.clause.proofs.StoreLaws.{stored-length, in-stored}
 use Rattle.clause.proofs.SetLaws.{Small, rising-clause}
 use Rattle.frame.specs.declared.Op.{Op}
 use Rattle.frame.specs.declared.Op.the-variants.{And, Xor}
 use Rattle.checker.specs.Progress.{clausesOf, Proper, AllProper, Held}
 
-stored-width : (c : Clause) → length c ≤ clauseWidth → length (stored c) ≡ clauseWidth
-stored-width c h = simp (length-append, length-map, length-replicate) (omega arith)
-
 pub all-width : (cs : List Clause) → AllProper cs → length (storedAll cs) ≡ clauseWidth * length cs
 unfolding storedAll
 all-width [] p = omega arith
-all-width (c ∷ cs) p = rw (length-append, stored-width c (p .0 .width), all-width cs (p .1)) (omega arith)
+all-width (c ∷ cs) p = rw (length-append, stored-length c (p .0 .width), all-width cs (p .1)) (omega arith)
 
 all-append : (cs ds : List Clause) → storedAll (cs ++ ds) ≡ storedAll cs ++ storedAll ds
 unfolding storedAll
@@ -41,23 +39,15 @@ proper-at (c ∷ cs) (suc k) p h = proper-at cs k (p .1) (omega arith)
 
 -- ---- a clause of the store
 
-zeros-none : (n : ℕ) → clauseIn (replicate n 0) ≡ []
-zeros-none zero = refl
-zeros-none (suc n) = refl
-
-in-stored : (c : Clause) (n : ℕ) → clauseIn (map suc c ++ replicate n 0) ≡ c
-in-stored [] n = zeros-none n
-in-stored (x ∷ c) n = ap (λ (t : List ℕ). x ∷ t) (in-stored c n)
-
 -- the k-th of clauses stored one behind the other
 eight-at : (cs : List Clause) → AllProper cs → (k : ℕ) → k < length cs → (rest : List ℕ) → take clauseWidth (drop (clauseWidth * k) (storedAll cs ++ rest)) ≡ stored (getD cs k [])
 unfolding storedAll
 eight-at [] p k h rest = absurd (omega arith)
 eight-at (c ∷ cs) p zero h rest =
     let z : clauseWidth * 0 ≡ 0 = omega arith in
-    rw (z, append-assoc (stored c) (storedAll cs) rest) (take-at (stored c) (storedAll cs ++ rest) clauseWidth (stored-width c (p .0 .width)))
+    rw (z, append-assoc (stored c) (storedAll cs) rest) (take-at (stored c) (storedAll cs ++ rest) clauseWidth (stored-length c (p .0 .width)))
 eight-at (c ∷ cs) p (suc k) h rest =
-    let e : clauseWidth * suc k ≡ length (stored c) + clauseWidth * k = omega (arith, stored-width c (p .0 .width)) in
+    let e : clauseWidth * suc k ≡ length (stored c) + clauseWidth * k = omega (arith, stored-length c (p .0 .width)) in
     rw (e, append-assoc (stored c) (storedAll cs) rest, drop-append-add (stored c) (storedAll cs ++ rest) (clauseWidth * k)) (eight-at cs (p .1) k (omega arith) rest)
 
 -- the store is its clauses and what is behind them
@@ -68,7 +58,7 @@ pub clause-held : (store : List ℕ) (cs : List Clause) → Held store cs → (k
 clause-held store cs h k l =
     ap (λ (t : List ℕ). clauseIn (take clauseWidth (drop (clauseWidth * k) t))) (held-split store cs h)
     ∙ ap clauseIn (eight-at cs (h .proper) k l (drop (clauseWidth * length cs) store))
-    ∙ in-stored (getD cs k []) (clauseWidth - length (getD cs k []))
+    ∙ in-stored (getD cs k [])
 
 pub held-rising : (store : List ℕ) (cs : List Clause) → Held store cs → (k : ℕ) → k < length cs → Rising (clauseAt store k)
 held-rising store cs h k l = rw (clause-held store cs h k l) (proper-at cs k (h .proper) l .rising)
@@ -80,7 +70,7 @@ pub held-more : (store : List ℕ) (cs : List Clause) (c : Clause) → Held stor
 unfolding storedAll
 held-more store cs c h p room =
     let n : ℕ = clauseWidth * length cs in
-    let w : length (stored c) ≡ clauseWidth = stored-width c (p .width) in
+    let w : length (stored c) ≡ clauseWidth = stored-length c (p .width) in
     let e : sets store n (stored c) ≡ take n store ++ stored c ++ drop (n + length (stored c)) store = sets-eq (stored c) store n (omega arith) in
     let count : length (cs ++ (c ∷ [])) ≡ length cs + 1 = length-append cs (c ∷ []) in
     let all : storedAll (cs ++ (c ∷ [])) ≡ storedAll cs ++ stored c = all-append cs (c ∷ []) ∙ ap (λ (l : List ℕ). storedAll cs ++ l) (append-nil (stored c)) in
