@@ -7,6 +7,7 @@ use Rattle.model.specs.Answers.Answer.{ok, refused}
 use Rattle.model.specs.Frames.{Frame}
 use Rattle.model.specs.Nets.{Netlist}
 use Rattle.model.specs.Lists.{Lists}
+use Rattle.model.specs.Steps.{State}
 
 -- refusal number, its line, the kind, and the fields with zeros behind them: seven numbers
 abbrev pub frameReply : Answer Frame → List ℕ
@@ -27,3 +28,8 @@ listReply (refused number line) = number ∷ line ∷ 0 ∷ 0 ∷ 0 ∷ []
 abbrev pub listsReply : Answer Lists → List ℕ
 listsReply (ok l) = 0 ∷ 0 ∷ l .left .inputs ∷ length (l .left .gates) ∷ length (l .right .gates) ∷ length (l .left .outs) ∷ []
 listsReply (refused number line) = number ∷ line ∷ 0 ∷ 0 ∷ 0 ∷ 0 ∷ []
+
+-- refusal number, its line, and an accepted proof's lines and clauses
+abbrev pub checkReply : Answer State → List ℕ
+checkReply (ok s) = 0 ∷ 0 ∷ s .steps ∷ length (s .clauses) ∷ []
+checkReply (refused number line) = number ∷ line ∷ 0 ∷ 0 ∷ []

@@ -2,6 +2,7 @@
 mod numbers; // a frame from a kind and numbers
 mod replies; // an answer as numbers
 
+use checker::check;
 use evaluator::evaluate;
 use frame::Decoded;
 use frame::Written;
@@ -11,19 +12,22 @@ use frame::write_frame;
 use netlist::read_list;
 use netlist::read_lists;
 use numbers::frame_from;
+use replies::check_reply;
 use replies::frame_reply;
 use replies::list_reply;
 use replies::lists_reply;
 use replies::word_reply;
 use replies::write_reply;
 ghost use mathlib.Core.Path.{_≡_};
-ghost use lib.ListN.{length};
+ghost use lib.ListN.{length, getD};
 ghost use Rattle.model.specs.Answers.{zeros};
 ghost use Rattle.model.specs.Frames.{loneLine};
 ghost use Rattle.model.specs.Lists.{readOne, readLists};
 ghost use Rattle.model.specs.Evaluator as model;
+ghost use Rattle.model.specs.Checker as checking;
+ghost use Rattle.laws.specs.Soundness.{AgreeingLists};
 ghost use Rattle.frame.specs.Frames.{decodedOf, writtenOf};
-ghost use Rattle.cec_abi.specs.Replies.{frameReply, numberReply, listReply, listsReply};
+ghost use Rattle.cec_abi.specs.Replies.{frameReply, numberReply, listReply, listsReply, checkReply};
 ghost use Rattle.cec_abi.specs.Calls.{writeAnswer, writtenAnswer, writeNumbers, writtenNumbers};
 
 // A lone line, as numbers: refusal, line, kind, four fields.
@@ -80,4 +84,15 @@ pub extern "C" fn cec_evaluate(text: &[u8], pattern: u64, work: &mut [u8], reply
     ensures leaves { λ _. ⌜ now (work .exit) ≡ zeros (length (now (work .entry))) ⌝ }
 {
     *reply = word_reply(evaluate(text, pattern, work));
+}
+
+// The verdict on a text of two lists and a proof; the reply is refusal, line, steps, clauses. Where the refusal is 0, both lists agree on
+// every pattern.
+#[no_mangle]
+pub extern "C" fn cec_check(text: &[u8], store: &mut [u16], reply: &mut [u64; 4])
+    ensures replies { λ _. ⌜ now (reply .exit) ≡ checkReply (checking.check (now (text .entry)) (length (now (store .entry)))) ⌝ }
+    ensures leaves { λ _. ⌜ now (store .exit) ≡ checking.storeAfter (length (now (store .entry))) (checking.check (now (text .entry)) (length (now (store .entry)))) ⌝ }
+    ensures agrees { λ _. ⌜ (getD (now (reply .exit)) 0 1 ≡ 0 → AgreeingLists (now (text .entry))) ⌝ }
+{
+    *reply = check_reply(check(text, store));
 }

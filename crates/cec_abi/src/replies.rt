@@ -1,4 +1,5 @@
 // An answer as numbers: the refusal and its line first, zeros for what it does not have.
+use checker::Checked;
 use evaluator::Evaluated;
 use frame::Decoded;
 use frame::Frame;
@@ -13,11 +14,13 @@ ghost use lib.ListN.{getD, take};
 ghost use Rattle.frame.specs.Frames.{frameOf, decodedOf, writtenOf};
 ghost use Rattle.netlist.specs.Says.{countsReply, countsOf, pairReply, pairOf};
 ghost use Rattle.evaluator.specs.Values.{evaluatedOf};
+ghost use Rattle.checker.specs.Verdicts.{checkedOf, countedOf};
 ghost use Rattle.model.specs.Answers.{Answer};
 ghost use Rattle.model.specs.Answers.Answer.{ok};
 ghost use Rattle.model.specs.Nets.{Netlist};
 ghost use Rattle.model.specs.Lists.{Lists};
-ghost use Rattle.cec_abi.specs.Replies.{frameReply, numberReply, listReply, listsReply};
+ghost use Rattle.model.specs.Steps.{State};
+ghost use Rattle.cec_abi.specs.Replies.{frameReply, numberReply, listReply, listsReply, checkReply};
 
 // Field i, from 0; 0 behind the last.
 fn field_at(w: Fields, i: usize) -> u64
@@ -100,5 +103,15 @@ pub fn word_reply(answer: Evaluated) -> [u64; 3]
     match answer {
         Evaluated::Word(word) => [0, 0, word],
         Evaluated::Refused(refusal) => [refusal.number as u64, refusal.line as u64, 0],
+    }
+}
+
+// The reply of every verdict that comes to these counts or to this refusal.
+pub fn check_reply(answer: Checked) -> [u64; 4]
+    ensures { λ r. ⌜ ((a : Answer State) → checkedOf answer ≡ countedOf a → r ≡ checkReply a) ⌝ }
+{
+    match answer {
+        Checked::Accepted { steps, clauses } => [0, 0, steps as u64, clauses as u64],
+        Checked::Refused(refusal) => [refusal.number as u64, refusal.line as u64, 0, 0],
     }
 }

@@ -1,7 +1,7 @@
 -- Laws of writing: stores one behind the other, digits stored from the last to the first, fields in turn, and a buffer's zeros.
 use Prim.Native.Nat.{ℕ, zero, suc, _+_, _-_, _*_, _/_, _%_, _<_, _≤_}
 use mathlib.Core.Path.{_≡_, refl, sym, ap, _∙_}
-use mathlib.Core.List.{List, [], _∷_, _++_, append-assoc}
+use mathlib.Core.List.{List, [], _∷_, _++_, append-assoc, append-nil}
 use mathlib.Core.Bool.{true, false, and-false}
 use native.Mathlib.Omega.{arith}
 use lib.Dec.{leb}
@@ -24,7 +24,7 @@ use Rattle.frame.specs.declared.Frame.the-variants.{Header, Gate, Output
 use Rattle.frame.specs.declared.Op.{Op}
 use Rattle.frame.specs.declared.Op.the-variants.{And, Xor}
 use Rattle.frame.specs.declared.fields.Fields.{Fields}
-use Rattle.frame.specs.Frames.{gateKind, extendKind, frameOf, Spells}
+use Rattle.frame.specs.Frames.{gateKind, extendKind, report, frameOf, Spells}
 
 -- ---- stores
 
@@ -178,3 +178,16 @@ module _ (f : Frame) (room : ℕ) where
       → (ok n ≡ writeFrame f room) × (buffer ≡ writtenFrame f room)
   unfolding writeFrame guard
   write-done n h e b = (rw (n, le-leb (length (lineOf f)) room h, e), rw (n, le-leb (length (lineOf f)) room h) (b ∙ fill room (lineOf f) h))
+
+-- ---- a report's line, in a buffer of just its length
+
+report-length : (refusal line steps clauses : ℕ) → length (lineOf (report refusal line steps clauses)) ≡ 19
+unfolding widths total
+report-length refusal line steps clauses = line-length (report refusal line steps clauses) refl
+
+pub report-written : (refusal line steps clauses : ℕ) → line ≤ highestLine → {room : ℕ} → room ≡ 19
+    → writtenFrame (report refusal line steps clauses) room ≡ lineOf (report refusal line steps clauses)
+unfolding writeFrame guard statedLine
+report-written refusal line steps clauses h e =
+    let l = report-length refusal line steps clauses in
+    rw (e, le-leb line highestLine h, l) (rw l (append-nil (lineOf (report refusal line steps clauses))))

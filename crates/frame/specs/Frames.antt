@@ -31,13 +31,17 @@ abbrev pub extendKind : Op → ℕ
 extendKind And = model.extendAndKind
 extendKind Xor = model.extendXorKind
 
+-- a report's frame
+abbrev pub report : ℕ → ℕ → ℕ → ℕ → model.Frame
+report refusal line steps clauses = record { kind = model.reportKind; fields = refusal ∷ line ∷ steps ∷ clauses ∷ [] }
+
 abbrev pub frameOf : Frame → model.Frame
 frameOf (Header i g o) = record { kind = model.headerKind; fields = i ∷ g ∷ o ∷ [] }
 frameOf (Gate op x y) = record { kind = gateKind op; fields = x ∷ y ∷ [] }
 frameOf (Output l) = record { kind = model.outputKind; fields = l ∷ [] }
 frameOf (Resolve a b v) = record { kind = model.resolveKind; fields = a ∷ b ∷ v ∷ [] }
 frameOf (Extend op x y) = record { kind = extendKind op; fields = x ∷ y ∷ [] }
-frameOf (Report r n s c) = record { kind = model.reportKind; fields = r ∷ n ∷ s ∷ c ∷ [] }
+frameOf (Report r n s c) = report r n s c
 
 -- ---- answers
 

@@ -2,6 +2,7 @@
 // Every text gets an answer: nothing here asks anything of the bytes that it is given.
 pub mod digits; // digits of a line, and the fields that they spell
 pub mod fields; // a frame as its kind and fields, for writing
+pub mod report; // a report's line
 
 use digits::byte_at;
 use digits::digits_at;

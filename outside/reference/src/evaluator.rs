@@ -6,7 +6,8 @@
 //! whoever has a list can evaluate it.
 
 use crate::frame::Operation;
-use crate::netlist::{read_list, Literal, Netlist};
+use crate::literal::Literal;
+use crate::netlist::{read_list, Netlist};
 use crate::refusal::Refusal;
 
 /// Evaluates the one list of the text on a pattern and gives the word of its outputs. The text is

@@ -3,7 +3,7 @@
 
 use std::fmt::Write;
 
-use crate::line::{Line, Lines};
+use crate::line::{digit, Line, Lines};
 use crate::refusal::Refusal;
 
 /// What a gate or an extension computes of its two operands.
@@ -159,18 +159,18 @@ impl Frame {
     /// The frame of a line, of any kind of the table; else 3. Which kinds are due, the caller
     /// knows.
     pub(crate) fn of_line(line: &Line) -> Result<Self, Refusal> {
-        Self::from_digits(&line.digits).ok_or(Refusal::frame(line.number))
+        Self::from_digits(line.digits).ok_or(Refusal::frame(line.number))
     }
 
     /// The frame that these digits are. None if the "kind [is] not due here, or length wrong for
     /// it", where every kind of the table is due; no digits are no kind.
     fn from_digits(digits: &[u8]) -> Option<Self> {
         let (kind, mut unread) = digits.split_at_checked(2)?;
-        let kind = u8::try_from(number(kind)).ok()?;
+        let kind = u8::try_from(number(kind)?).ok()?;
         let mut fields = [0; 4];
         for (field, bytes) in fields.iter_mut().zip(field_bytes(kind)?) {
             let (digits, behind) = unread.split_at_checked(2 * bytes)?;
-            *field = number(digits);
+            *field = number(digits)?;
             unread = behind;
         }
         if !unread.is_empty() {
@@ -210,11 +210,12 @@ fn xor_is_one(operation: Operation) -> u8 {
     }
 }
 
-/// The number that the digits write, "most significant digit first".
-fn number(digits: &[u8]) -> u64 {
-    digits
-        .iter()
-        .fold(0, |number, &digit| 16 * number + u64::from(digit))
+/// The number that the digits write, "most significant digit first". None if a byte is no digit,
+/// which a line has not.
+fn number(digits: &[u8]) -> Option<u64> {
+    digits.iter().try_fold(0, |number, &byte| {
+        Some(16 * number + u64::from(digit(byte)?))
+    })
 }
 
 /// Reads a text of one line. "A lone line is read with 2 and 3 only; no bytes at all is 2 at line

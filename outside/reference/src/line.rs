@@ -10,11 +10,11 @@ const LF: u8 = 10;
 
 /// One line of a text, without its LF.
 #[derive(Debug, PartialEq, Eq)]
-pub(crate) struct Line {
+pub(crate) struct Line<'text> {
     /// Its place in the text, from 1.
     pub(crate) number: u64,
-    /// The value of each digit, 0 to 15.
-    pub(crate) digits: Vec<u8>,
+    /// Its bytes, each of which is a digit.
+    pub(crate) digits: &'text [u8],
 }
 
 /// The lines of a text from the top. "Reading goes from the top and the first fault ends it":
@@ -47,8 +47,8 @@ impl<'text> Lines<'text> {
     }
 }
 
-impl Iterator for Lines<'_> {
-    type Item = Result<Line, Refusal>;
+impl<'text> Iterator for Lines<'text> {
+    type Item = Result<Line<'text>, Refusal>;
 
     fn next(&mut self) -> Option<Self::Item> {
         if self.unread.is_empty() {
@@ -67,14 +67,14 @@ impl Iterator for Lines<'_> {
 
 /// The digits up to the first LF, and what stands behind it. None if there is no LF, or if another
 /// byte than a digit stands before it.
-fn take_digits(text: &[u8]) -> Option<(Vec<u8>, &[u8])> {
-    let end = text.iter().position(|&byte| byte == LF)?;
-    let digits = text[..end].iter().map(|&byte| digit(byte));
-    Some((digits.collect::<Option<_>>()?, &text[end + 1..]))
+fn take_digits(text: &[u8]) -> Option<(&[u8], &[u8])> {
+    let end = text.iter().position(|&byte| digit(byte).is_none())?;
+    let (digits, behind) = text.split_at(end);
+    Some((digits, behind.strip_prefix(&[LF])?))
 }
 
 /// The value of a digit: 0-9 and A-F, and no small letter.
-fn digit(byte: u8) -> Option<u8> {
+pub(crate) fn digit(byte: u8) -> Option<u8> {
     match byte {
         b'0'..=b'9' => Some(byte - b'0'),
         b'A'..=b'F' => Some(byte - b'A' + 10),
@@ -97,9 +97,8 @@ mod tests {
     #[test]
     fn lines_are_counted_and_the_first_fault_ends_them() {
         let mut lines = Lines::of(b"0A\n\nF\nx\n00\n");
-        let expected: [(u64, &[u8]); 3] = [(1, &[0, 10]), (2, &[]), (3, &[15])];
+        let expected: [(u64, &[u8]); 3] = [(1, b"0A"), (2, b""), (3, b"F")];
         for (number, digits) in expected {
-            let digits = digits.to_vec();
             assert_eq!(lines.next(), Some(Ok(Line { number, digits })));
         }
         assert_eq!(lines.next(), Some(Err(Refusal::line_bytes(4))));

@@ -10,28 +10,13 @@ use std::ops::RangeInclusive;
 
 use crate::frame::{Frame, Operation};
 use crate::line::Lines;
+use crate::literal::Literal;
 use crate::refusal::Refusal;
 
 /// "Inputs 0 to 64, gates 0 to 1,024, outputs 1 to 64."
 const INPUTS: RangeInclusive<usize> = 0..=64;
 const GATES: RangeInclusive<usize> = 0..=1_024;
 const OUTPUTS: RangeInclusive<usize> = 1..=64;
-
-/// "A literal is 2 × net + 1 if complemented, + 0 if not."
-#[derive(Clone, Copy, Debug, PartialEq, Eq)]
-pub struct Literal(u16);
-
-impl Literal {
-    /// The net that it reads.
-    pub fn net(self) -> usize {
-        usize::from(self.0 / 2)
-    }
-
-    /// Whether it shows the complement of its net.
-    pub fn is_complemented(self) -> bool {
-        self.0 % 2 == 1
-    }
-}
 
 /// One gate of a list.
 #[derive(Clone, Copy, Debug, PartialEq, Eq)]

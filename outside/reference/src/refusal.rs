@@ -15,6 +15,11 @@ pub struct Refusal {
 }
 
 impl Refusal {
+    /// Place 'whole stream, program only': "over 65,536 bytes; line 0".
+    pub(crate) fn stream() -> Self {
+        Self { number: 1, line: 0 }
+    }
+
     /// Place 'line's bytes': "a byte other than a digit above or LF, or the text ends within a
     /// line".
     pub(crate) fn line_bytes(line: u64) -> Self {
@@ -45,6 +50,49 @@ impl Refusal {
     /// Place 'gate, output': "a literal over a net not allowed there".
     pub(crate) fn literal(line: u64) -> Self {
         Self { number: 7, line }
+    }
+
+    /// Place 'before the proof': "store too short for the miter's clauses; line 0".
+    pub(crate) fn store() -> Self {
+        Self { number: 8, line: 0 }
+    }
+
+    /// Place 'resolve': "a clause number 0 or past the last".
+    pub(crate) fn clause_number(line: u64) -> Self {
+        Self { number: 9, line }
+    }
+
+    /// Place 'resolve': "v not in the first, or ¬v not in the second".
+    pub(crate) fn pivot(line: u64) -> Self {
+        Self { number: 10, line }
+    }
+
+    /// Place 'resolve': "result over 8 literals".
+    pub(crate) fn resolvent(line: u64) -> Self {
+        Self { number: 11, line }
+    }
+
+    /// Place 'extend': "operand's variable not in use".
+    pub(crate) fn operand(line: u64) -> Self {
+        Self { number: 12, line }
+    }
+
+    /// Place 'extend': "t would be 16,384".
+    pub(crate) fn variables(line: u64) -> Self {
+        Self { number: 13, line }
+    }
+
+    /// Place 'any step': "store lacks space for all its clauses".
+    pub(crate) fn space(line: u64) -> Self {
+        Self { number: 14, line }
+    }
+
+    /// Place 'after the proof': "no line, or the last step isn't an empty resolve; line 0".
+    pub(crate) fn unproved() -> Self {
+        Self {
+            number: 15,
+            line: 0,
+        }
     }
 
     /// Place 'frame writer': "buffer shorter than the line, or a line number above FFFFFF; line

@@ -71,18 +71,6 @@ fn a_list_is_one_header_its_gates_its_outputs() {
 }
 
 #[test]
-fn a_literal_is_twice_its_net_and_its_sign() {
-    let parts = |literal: u16| {
-        let literal = Literal(literal);
-        (literal.net(), literal.is_complemented())
-    };
-    assert_eq!(parts(0), (0, false));
-    assert_eq!(parts(1), (0, true));
-    assert_eq!(parts(2), (1, false));
-    assert_eq!(parts(0xFFFF), (0x7FFF, true));
-}
-
-#[test]
 fn bench_lists_are_read() {
     read(LEFT, [1, 1, 1]);
     read(RIGHT, [1, 0, 1]);
