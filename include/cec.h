@@ -138,6 +138,44 @@ void cec_read_lists(const uint8_t *text, size_t text_len, uint64_t reply[6]);
 void cec_evaluate(const uint8_t *text, size_t text_len, uint64_t pattern, uint8_t *work,
                   size_t work_len, uint64_t reply[3]);
 
+/*
+ * Checks a proof that two lists agree on every pattern. The text is the left list, the right list,
+ * and the proof's lines to the end, as document 01 has them under 'The miter's clauses' and 'Steps'.
+ *
+ * reply[0]  0 if the proof was accepted, else the refusal number
+ * reply[1]  0 if the proof was accepted, else the line of the refusal
+ * reply[2]  the number of the proof's lines, 0 after a refusal
+ * reply[3]  the number of clauses, the miter's and the steps', 0 after a refusal
+ *
+ * Where reply[0] is 0, both lists give the same word on every pattern, whatever the store's length.
+ *
+ * A clause takes eight numbers of store, so store holds store_len / 8 clauses, at most 65,535.
+ * What it held before does not matter. After acceptance the eight from 8 * (k - 1) are clause k:
+ * each literal plus one, rising, then zeros; and zeros stand behind the last clause, up to
+ * store_len. After a refusal all of store is zero. The first of these faults is given, where
+ * reading goes from the top:
+ *
+ *   2 to 7      the lists are refused as by cec_read_lists, with the same line; lines may follow them
+ *   8, line 0   the store has no room for the miter's clauses
+ *
+ * Of a proof line the first of these, with the line:
+ *
+ *   2   the line has a byte other than 0-9, A-F and its LF, or the text ends before its LF
+ *   3   the line is empty, its kind is no step's, or its length is wrong for its kind
+ *   9   resolve: a clause number is 0 or past the last
+ *   10  resolve: the first clause does not hold the variable, or the second not its complement
+ *   11  resolve: the result has over 8 literals
+ *   12  extend: a literal is over a variable not in use
+ *   13  extend: the new variable would be 16,384
+ *   14  the store has no room for the step's clauses
+ *
+ * And behind the last line:
+ *
+ *   15, line 0  there is no proof line, or the last is no resolve whose clause is empty
+ */
+void cec_check(const uint8_t *text, size_t text_len, uint16_t *store, size_t store_len,
+               uint64_t reply[4]);
+
 #ifdef __cplusplus
 }
 #endif

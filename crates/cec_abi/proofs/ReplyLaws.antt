@@ -1,6 +1,7 @@
--- Laws of the replies: a frame's numbers one by one, where the definition has the fields and zeros behind them; and a list's by the counts.
+-- Laws of the replies: a frame's numbers one by one, where the definition has the fields and zeros behind them; a list's by the counts; and
+-- a verdict's, whose first number is 0 only where the text is accepted.
 use Prim.Native.Nat.{ℕ, _≤_}
-use mathlib.Core.Path.{_≡_, refl}
+use mathlib.Core.Path.{_≡_, refl, ap}
 use mathlib.Core.List.{List, [], _∷_}
 use native.Mathlib.Omega.{arith}
 use lib.ListN.{length, getD, take, List·getD-eq-default, length-take}
@@ -9,11 +10,18 @@ use Rattle.model.specs.Answers.Answer.{ok, refused}
 use Rattle.model.specs.Frames.{Frame}
 use Rattle.model.specs.Nets.{Netlist}
 use Rattle.model.specs.Lists.{Lists}
+use Rattle.model.specs.Steps.{State}
+use Rattle.model.specs.Checker.{check}
+use Rattle.laws.specs.Answers.{ok-injective}
+use Rattle.laws.specs.Places.{Placed, check-placed}
+use Rattle.laws.specs.Places.Placed.{place}
+use Rattle.laws.specs.Soundness.{AgreeingLists, sound}
+use Rattle.checker.specs.Verdicts.{Counted, countedOf}
 use Rattle.frame.specs.declared.fields.Fields.{Fields}
 use Rattle.frame.specs.Frames.{Spells}
 use Rattle.netlist.specs.declared.Counts.{Counts}
 use Rattle.netlist.specs.Says.{PairCounts, countsOf, pairOf}
-use Rattle.cec_abi.specs.Replies.{frameReply, listReply, listsReply}
+use Rattle.cec_abi.specs.Replies.{frameReply, listReply, listsReply, checkReply}
 
 -- ---- a frame
 
@@ -55,3 +63,24 @@ paired p (refused number line) e = cc
 pub unpaired : (number line : ℕ) (a : Answer Lists) → refused number line ≡ pairOf a → number ∷ line ∷ 0 ∷ 0 ∷ 0 ∷ 0 ∷ [] ≡ listsReply a
 unpaired number line (ok l) e = cc
 unpaired number line (refused m n) e = cc
+
+-- ---- verdicts
+
+pub accepted : (steps clauses : ℕ) (a : Answer State) → ok (record { steps = steps; clauses = clauses }) ≡ countedOf a → 0 ∷ 0 ∷ steps ∷ clauses ∷ [] ≡ checkReply a
+accepted steps clauses (ok s) e =
+    let c = ok-injective e in
+    let a : steps ≡ s .steps = ap (λ (c : Counted). c .steps) c in
+    let b : clauses ≡ length (s .clauses) = ap (λ (c : Counted). c .clauses) c in
+    rw (a, b)
+accepted steps clauses (refused number line) e = cc
+
+pub unaccepted : (number line : ℕ) (a : Answer State) → refused number line ≡ countedOf a → number ∷ line ∷ 0 ∷ 0 ∷ [] ≡ checkReply a
+unaccepted number line (ok s) e = cc
+unaccepted number line (refused m l) e = cc
+
+zero-accepts : {Good : State → Type 0} {most : ℕ} (a : Answer State) → Placed Good most a → getD (checkReply a) 0 1 ≡ 0 → (s : State) × (a ≡ ok s)
+zero-accepts (ok s) p e = (s, refl)
+zero-accepts (refused number line) (place n l some few) e = absurd (omega arith)
+
+pub agrees : (text : List ℕ) (n : ℕ) {reply : List ℕ} → reply ≡ checkReply (check text n) → getD reply 0 1 ≡ 0 → AgreeingLists text
+agrees text n r e = let a = zero-accepts (check text n) (check-placed text n) (rw r at e) in sound text n (a .0) (a .1)

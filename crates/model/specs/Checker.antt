@@ -60,9 +60,12 @@ abbrev pub reportOf : Answer State → Frame
 reportOf (ok s) = record { kind = reportKind; fields = 0 ∷ 0 ∷ s .steps ∷ length (s .clauses) ∷ [] }
 reportOf (refused number line) = record { kind = reportKind; fields = number ∷ line ∷ 0 ∷ 0 ∷ [] }
 
--- 'The checking program reads standard input, uses a store of 4,096 clauses and prints one report frame.' 1: 'over 65,536 bytes; line 0'.
+-- the verdict on a whole stream, 'a store of 4,096 clauses'; 1: 'over 65,536 bytes; line 0'
+unfoldable pub judge : List ℕ → Answer State
+judge stream =
+    guard (leb (length stream) streamBytes) 1 0
+    (check stream (clauseWidth * programClauses))
+
+-- 'The checking program reads standard input, uses a store of 4,096 clauses and prints one report frame.'
 unfoldable pub program : List ℕ → List ℕ
-program stream =
-    lineOf (reportOf
-    (guard (leb (length stream) streamBytes) 1 0
-    (check stream (clauseWidth * programClauses))))
+program stream = lineOf (reportOf (judge stream))

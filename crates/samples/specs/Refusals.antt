@@ -16,7 +16,7 @@ use Rattle.model.specs.Evaluator.{evaluate}
 use Rattle.model.specs.Clauses.{Clause, gateClauses}
 use Rattle.model.specs.Steps.{State, step}
 use Rattle.model.specs.Steps.Step.{resolve, extend}
-use Rattle.model.specs.Checker.{check, reportOf, program, storeAfter}
+use Rattle.model.specs.Checker.{check, reportOf, judge, program, storeAfter}
 use Rattle.model.specs.Engine.{provable}
 use Rattle.samples.specs.Definitions.{definitions, bytes, saysOf}
 
@@ -27,7 +27,7 @@ unfolding definitions
 over-stream t n = rw n
 
 whole-stream : (t : List ℕ) → length t ≡ 65536 → program t ≡ lineOf (reportOf (check t 32768))
-unfolding program guard
+unfolding program judge guard
 whole-stream t n = rw n
 
 -- ---- 2 and 3: lines

@@ -1,0 +1,46 @@
+// A stream's report: the checker's verdict as the one line that the program prints.
+use checker::Checked;
+use checker::check;
+use frame::report::report_line;
+use netlist::Refusal;
+ghost use mathlib.Core.Path.{_≡_};
+ghost use Rattle.model.specs.Answers.{Answer};
+ghost use Rattle.model.specs.Frames.{lineOf};
+ghost use Rattle.model.specs.Steps.{State};
+ghost use Rattle.model.specs.Checker as model;
+ghost use Rattle.checker.specs.Verdicts.{checkedOf, countedOf};
+ghost use Rattle.cec_check.specs.Reports.{Fits};
+
+const STREAM_BYTES: usize = 65536;
+
+// The numbers of a store of 4,096 clauses.
+const STORE_NUMBERS: usize = 32768;
+
+// The verdict on a stream, or 1 for one that is too long.
+fn judge(stream: &[u8]) -> Checked
+    ensures { λ r. ⌜ checkedOf r ≡ countedOf (model.judge (now (stream .entry))) ⌝ }
+{
+    if STREAM_BYTES < stream.len() {
+        return Checked::Refused(Refusal { number: 1, line: 0 });
+    }
+    let mut store = [0u16; STORE_NUMBERS];
+    check(stream, &mut store)
+}
+
+// The report's line of every verdict that comes to these counts or to this refusal.
+fn line_of(checked: Checked) -> [u8; 19]
+    requires { ⌜ Fits checked ⌝ }
+    ensures { λ r. ⌜ ((a : Answer State) → checkedOf checked ≡ countedOf a → r ≡ lineOf (model.reportOf a)) ⌝ }
+{
+    match checked {
+        Checked::Accepted { steps, clauses } => report_line(0, 0, steps as u16, clauses as u16),
+        Checked::Refused(refusal) => report_line(refusal.number, refusal.line, 0, 0),
+    }
+}
+
+// The line that the program prints for a stream.
+pub fn report(stream: &[u8]) -> [u8; 19]
+    ensures { λ r. ⌜ r ≡ model.program (now (stream .entry)) ⌝ }
+{
+    line_of(judge(stream))
+}
