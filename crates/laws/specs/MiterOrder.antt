@@ -11,7 +11,7 @@ use Rattle.model.specs.Clauses.{positive}
 use Rattle.model.specs.Miter.{shift, shiftGate, zs, ws, firstGate, firstZ, firstW, rightGates, gatesOf, zGates, wGates, miterGates, miterVars}
 use Rattle.laws.specs.Bools.{both}
 use Rattle.laws.specs.Growing.{by-shift}
-use Rattle.laws.specs.Pairs.{Ordered, ordered-append, Below, Pair}
+use Rattle.laws.specs.Pairs.{Ordered, ordered-append, Below, Plain, Pair}
 
 -- ---- gates in order
 
@@ -47,6 +47,16 @@ ordered-ws (suc n) t w z h j = (
   ordered-ws n (suc t) t (suc z) (omega arith) (omega arith),
 )
 
+-- ---- no gate is an OR
+
+plain-append : (gs hs : List Gate) → Plain gs → Plain hs → Plain (gs ++ hs)
+plain-append [] hs p q = q
+plain-append (g ∷ gs) hs p q = (p .0, plain-append gs hs (p .1) q)
+
+plain-shift : (i k : ℕ) (gs : List Gate) → Plain gs → Plain (map (shiftGate i k) gs)
+plain-shift i k [] p = tt
+plain-shift i k (g ∷ gs) p = (p .0, plain-shift i k gs (p .1))
+
 -- ---- how many
 
 length-zs : (i k : ℕ) (xs ys : List ℕ) → length xs ≡ length ys → length (zs i k xs ys) ≡ length xs
@@ -76,7 +86,8 @@ module _ (a b : Netlist) (ab : Pair a b) where
   pub below-right : Below (firstGate a + length (b .gates)) (b .outs)
   below-right = rw (ab .inputs) at (ab .right .below)
 
-  length-gates : length (gatesOf a b) ≡ length (a .gates) + length (b .gates)
+  -- the gates of both lists
+  pub length-gates : length (gatesOf a b) ≡ length (a .gates) + length (b .gates)
   length-gates = simp (length-append, length-map)
 
   pub length-z : length (zGates a b) ≡ length (a .outs)
@@ -117,13 +128,18 @@ module _ (a b : Netlist) (ab : Pair a b) where
       ∙ rw (length-to-w, length-ws (length (a .outs) - 1) (firstW a b) (firstZ a b) (suc (firstZ a b)))
 
   -- the gates of both lists are in order
-  ordered-gates : Ordered (firstGate a) (gatesOf a b)
+  pub ordered-gates : Ordered (firstGate a) (gatesOf a b)
   ordered-gates =
       ordered-append (firstGate a) (size a) (a .gates) (rightGates a b) refl
       (ab .left .ordered)
       (ordered-shift (a .inputs) (length (a .gates)) (firstGate a) (b .gates) (rw (ab .inputs) at (ab .right .ordered)))
 
-  -- and so are all of the miter's
+  -- and none of them is an OR
+  pub plain-gates : Plain (gatesOf a b)
+  plain-gates =
+      plain-append (a .gates) (rightGates a b) (ab .left .plain) (plain-shift (a .inputs) (length (a .gates)) (b .gates) (ab .right .plain))
+
+  -- all of the miter's gates are in order
   pub ordered-miter : Ordered (firstGate a) (miterGates a b)
   unfolding miterGates firstZ
   ordered-miter =
