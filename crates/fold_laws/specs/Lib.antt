@@ -2,5 +2,5 @@
 pub mod Signs
 pub mod Same
 pub mod Cases
-
---pub mod Table
+pub mod Table
+pub mod Entries
