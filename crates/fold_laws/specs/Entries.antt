@@ -1,22 +1,29 @@
--- Reading a table: representatives, what `find` finds, what a key's entry is, and where a table starts. `Fact` is what will hold of every
--- net. Nothing here speaks of forms.
+-- Reading a table: representatives, what `find` finds, what a key's entry is, and where a table starts.
 use Prim.Native.Nat.{ℕ, zero, suc, _+_, _≤_, _<_}
 use mathlib.Core.Path.{_≡_, refl, sym, ap, _∙_}
-use mathlib.Core.Bool.{Bool, true, false, _&&_, cond}
+use mathlib.Core.Bool.{Bool, true, false, _&&_, cond, true≢false}
 use mathlib.Core.List.{List}
 use native.Mathlib.Omega.{arith}
 use lib.ListN.{length, take}
 use lib.Seq.{getD-take, length-take-le}
 use lib.Dec.{eqb, ltb}
 use borrow.Author.Tests.{eqb-true, eqb-false, eq-eqb, ltb-true, ltb-false}
-use Rattle.model.specs.Nets.{Gate, netOf, odd}
+use Rattle.model.specs.Nets.{Gate, netOf, odd, xorb}
 use Rattle.model.specs.Clauses.{positive}
 use Rattle.laws.specs.Bools.{both, by-cond, xorb-self}
 use Rattle.laws.specs.Literals.{positive-even}
 use Rattle.laws.specs.Growing.{grow-front, length-grow}
-use Rattle.fold_laws.specs.Signs.{signed, signed-net, odd-signed, signed-signed, signed-back, signed-positive}
+use Rattle.fold_laws.specs.Signs.{signed, signed-net, odd-signed, signed-signed, signed-back, same-net, signed-positive}
 use Rattle.fold_laws.specs.Cases.Made.{key}
 use Rattle.fold_laws.specs.Table.{Entry, kindOf, baseEntry, linkedEntry, ownEntry, blank, at, repOf, fits, find, enter, part, entry, bases, tableOf}
+
+-- below v, or v
+pub split : {P : Type 0} (u v : ℕ) → u < suc v → (u < v → P) → (u ≡ v → P) → P
+split {P} u v h f g = go (ltb u v) refl
+  where
+    go : (q : Bool) → ltb u v ≡ q → P
+    go true e = f (ltb-true u v e)
+    go false e = g (omega (arith, ltb-false u v e))
 
 -- ---- kinds and signs
 
@@ -40,18 +47,20 @@ pub rep-signed : (t : List Entry) (b : Bool) (l : ℕ) → repOf t (signed b l) 
 unfolding repOf
 rep-signed t b l = rw (odd-signed b l, signed-net b l) (sym (signed-signed b (odd l) (at t (netOf l) .rep)))
 
--- the net's from a literal's, the literal's from its net's
-pub rep-net : (t : List Entry) (n : ℕ) → at t (netOf n) .rep ≡ signed (odd n) (repOf t n)
-unfolding repOf
-rep-net t n = sym (signed-back (odd n) (at t (netOf n) .rep))
-
+-- of a literal of net v, from the net's
 pub rep-is : (t : List Entry) (v : ℕ) (s : Bool) (r : ℕ) → at t v .rep ≡ signed s r → repOf t (signed s (positive v)) ≡ r
 unfolding repOf
 rep-is t v s r e =
     let n : netOf (positive v) ≡ v = omega arith in
     rep-signed t s (positive v) ∙ ap (signed s) (rw (positive-even v, n) e) ∙ signed-back s r
 
--- every literal over an own net represents itself
+-- over one net all literals represent themselves or none does
+pub own-over : (t : List Entry) (l m : ℕ) → netOf m ≡ netOf l → repOf t l ≡ l → repOf t m ≡ m
+own-over t l m e o =
+    let c : Bool = xorb (odd m) (odd l) in
+    let y : m ≡ signed c l = same-net m l e in
+    ap (repOf t) y ∙ rep-signed t c l ∙ ap (signed c) o ∙ sym y
+
 pub own-rep : (t : List Entry) (l : ℕ) → at t (netOf l) .rep ≡ positive (netOf l) → repOf t l ≡ l
 unfolding repOf
 own-rep t l e = rw e (signed-positive l)
@@ -60,26 +69,6 @@ own-rep t l e = rw e (signed-positive l)
 pub rep-take : (t : List Entry) (v l : ℕ) → netOf l < v → repOf (take v t) l ≡ repOf t l
 unfolding repOf
 rep-take t v l h = rw (getD-take v t (netOf l) blank h)
-
--- ---- what is known of a table
-
--- own net u is the AND or XOR of its key: two representatives in order, over nets below it that are not net 0
-pub record Key (t : List Entry) (k : Bool) (u : ℕ) : Type 0 where
-  pub first : repOf t (at t u .ka) ≡ at t u .ka
-  pub second : repOf t (at t u .kb) ≡ at t u .kb
-  pub plain₁ : k && odd (at t u .ka) ≡ false
-  pub plain₂ : k && odd (at t u .kb) ≡ false
-  pub some : 0 < netOf (at t u .ka)
-  pub rising : netOf (at t u .ka) < netOf (at t u .kb)
-  pub below : netOf (at t u .kb) < u
-  pub over : netOf (at t u .core) ≡ u
-
-pub record Fact (t : List Entry) (u : ℕ) : Type 0 where
-  pub below : netOf (at t u .rep) ≤ u
-  pub idem : repOf t (at t u .rep) ≡ at t u .rep
-  pub fixed : netOf (at t u .rep) ≡ u → at t u .rep ≡ positive u
-  pub own : (k : Bool) → at t u .kind ≡ kindOf k → at t u .rep ≡ positive u → Key t k u
-  pub keeps : 0 < at t u .ka → at t u .rep ≡ positive u
 
 -- ---- finding
 
@@ -96,7 +85,7 @@ fits-hit t k a b u e =
     let j = both (eqb (at t u .ka) a) (eqb (at t u .kb) b) (h .1) in
     record { kind = eqb-true _ _ (h .0); first = eqb-true _ _ (j .0); second = eqb-true _ _ (j .1) }
 
-pub hit-fits : (t : List Entry) (k : Bool) (a b u : ℕ) → Hit t k a b u → fits k a b (at t u) ≡ true
+hit-fits : (t : List Entry) (k : Bool) (a b u : ℕ) → Hit t k a b u → fits k a b (at t u) ≡ true
 unfolding fits
 hit-fits t k a b u h =
     rw (eq-eqb (at t u .kind) (kindOf k) (h .kind), eq-eqb (at t u .ka) a (h .first), eq-eqb (at t u .kb) b (h .second))
@@ -124,10 +113,14 @@ find-found k a b t (suc n) u =
     go x h i e r true d = rw (← eqb-true u x d) e
     go x h i e r false d = let m : u ≡ x → ⊥ = eqb-false u x d in r .least x (omega arith) i
 
--- net v of the key a, b: it stands for the net u that keeps this key, or none does and v keeps it
+-- no net below w fits
+abbrev pub NoneBelow : List Entry → Bool → ℕ → ℕ → ℕ → Type 0
+NoneBelow t k a b w = (u : ℕ) → u < w → Hit t k a b u → ⊥
+
+-- net v of the key a, b: it stands for the first net u that keeps this key, or none does and v keeps it
 pub data Entered (t : List Entry) (k s : Bool) (a b v : ℕ) : Type 0 where
-  old : (u : ℕ) → u < v → Hit t k a b u → at t v ≡ linkedEntry k (signed s (at t u .core)) → Entered t k s a b v
-  new : ((w : ℕ) → w < v → fits k a b (at t w) ≡ false) → at t v ≡ ownEntry k v a b (signed s (positive v)) → Entered t k s a b v
+  old : (u : ℕ) → u < v → Hit t k a b u → NoneBelow t k a b u → at t v ≡ linkedEntry k (signed s (at t u .core)) → Entered t k s a b v
+  new : NoneBelow t k a b v → at t v ≡ ownEntry k v a b (signed s (positive v)) → Entered t k s a b v
 
 pub entered : (t : List Entry) (k s : Bool) (a b v : ℕ) → v < length t → at t v ≡ enter (take v t) k s (key a b) → Entered t k s a b v
 unfolding enter
@@ -142,14 +135,20 @@ entered t k s a b v h e = go (ltb u v) refl (e ∙ rw long)
     f : Found (take v t) k a b 0 (0 + v) u
     f = find-found k a b (take v t) v 0
 
+    none : u ≤ v → NoneBelow t k a b u
+    none l w d hit =
+        true≢false (sym (hit-fits t k a b w hit) ∙ (rw (getD-take v t w blank (omega arith)) at (f .least w (omega arith) d)))
+
     go : (q : Bool) → ltb u v ≡ q
         → at t v ≡ cond q (linkedEntry k (signed s (at (take v t) u .core))) (ownEntry k v a b (signed s (positive v)))
         → Entered t k s a b v
     go true d e =
         let l : u < v = ltb-true u v d in
         let c : at (take v t) u ≡ at t u = getD-take v t u blank l in
-        old u l (fits-hit t k a b u (rw c at (f .hit (omega arith)))) (e ∙ rw c)
-    go false d e = new (λ w l. rw (getD-take v t w blank l) at (f .least w (omega arith) (omega (arith, ltb-false u v d, f .to)))) e
+        old u l (fits-hit t k a b u (rw c at (f .hit (omega arith)))) (none (omega arith)) (e ∙ rw c)
+    go false d e =
+        let o : u ≡ v = omega (arith, ltb-false u v d, f .to) in
+        new (rw o at (none (omega arith))) e
 
 -- ---- where a table starts
 

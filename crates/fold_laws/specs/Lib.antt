@@ -4,3 +4,4 @@ pub mod Same
 pub mod Cases
 pub mod Table
 pub mod Entries
+pub mod Facts
