@@ -5,3 +5,4 @@ pub mod Cases
 pub mod Table
 pub mod Entries
 pub mod Facts
+pub mod Invariant
