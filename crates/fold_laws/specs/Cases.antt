@@ -69,9 +69,11 @@ XorIs a b pass = a ≡ 0
 XorIs a b same = (2 ≤ a) × (a ≡ b)
 XorIs a b pair = (2 ≤ a) × (netOf a < netOf b)
 
-pub xor-is : (a b : ℕ) → a ≤ b → a % 2 ≡ 0 → b % 2 ≡ 0 → XorIs a b (xorCase a b)
+pub xor-is : (a b : ℕ) → a ≤ b → odd a ≡ false → odd b ≡ false → XorIs a b (xorCase a b)
 unfolding xorCase
 xor-is a b h p q =
+    let m : a % 2 ≡ 0 = bit-odd a ∙ ap bit p in
+    let n : b % 2 ≡ 0 = bit-odd b ∙ ap bit q in
     by-cond (XorIs a b) (eqb a 0) (λ e. eqb-true a 0 e)
     (λ e.
     let z : a ≡ 0 → ⊥ = eqb-false a 0 e in
@@ -95,7 +97,7 @@ by-made P false a b h e d z r f = go (andCase a b) (and-is a b h)
     go pass i = r
     go opp i = z
     go pair i = f (i .0) (i .1)
-by-made P true a b h e d z r f = go (xorCase a b) (xor-is a b h (bit-odd a ∙ ap bit e) (bit-odd b ∙ ap bit d))
+by-made P true a b h e d z r f = go (xorCase a b) (xor-is a b h e d)
   where
     go : (c : XorCase) → XorIs a b c → P (xorMade c a b)
     go pass i = r

@@ -6,3 +6,4 @@ pub mod Table
 pub mod Entries
 pub mod Facts
 pub mod Invariant
+pub mod Step
