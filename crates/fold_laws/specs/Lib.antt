@@ -7,3 +7,5 @@ pub mod Entries
 pub mod Facts
 pub mod Invariant
 pub mod Step
+pub mod Folded
+pub mod Engine
