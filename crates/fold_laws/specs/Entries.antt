@@ -15,7 +15,8 @@ use Rattle.laws.specs.Literals.{positive-even}
 use Rattle.laws.specs.Growing.{grow-front, length-grow}
 use Rattle.fold_laws.specs.Signs.{signed, signed-net, odd-signed, signed-signed, signed-back, same-net, signed-positive}
 use Rattle.fold_laws.specs.Cases.Made.{key}
-use Rattle.fold_laws.specs.Table.{Entry, kindOf, baseEntry, linkedEntry, ownEntry, blank, at, repOf, fits, find, enter, part, entry, bases, tableOf}
+use Rattle.fold_laws.specs.Table.{Entry, kindOf, baseEntry, linkedEntry, ownEntry, blank, at, repOf}
+use Rattle.fold_laws.specs.Table.{fits, find, enter, part, entry, bases, tableOf}
 
 -- below v, or v
 pub split : {P : Type 0} (u v : ℕ) → u < suc v → (u < v → P) → (u ≡ v → P) → P

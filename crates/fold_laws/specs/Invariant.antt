@@ -1,9 +1,9 @@
 -- Literals have the same form exactly if they have the same representative (J), of a table that meets T1. It is kept up from net to net by
 -- two laws: `merge`, for a net that stands for another's literal, and `fresh`, for a gate whose key no net below has, the only one that looks
 -- into cores.
-use Prim.Native.Nat.{ℕ, suc, _≤_, _<_}
+use Prim.Native.Nat.{ℕ, suc, _<_}
 use mathlib.Core.Path.{_≡_, refl, sym, ap, ap₂, _∙_}
-use mathlib.Core.Bool.{Bool, true, false, not, _&&_, _||_, true≢false, and-false}
+use mathlib.Core.Bool.{Bool, true, false, not, _&&_, true≢false, and-false}
 use mathlib.Core.List.{List}
 use native.Mathlib.Omega.{arith}
 use lib.ListN.{getD}
@@ -15,7 +15,8 @@ use Rattle.model.specs.Forms.{Core, Form, flip, never, alike, same, sameForm, l
 use Rattle.model.specs.Forms.Core.{leaf}
 use Rattle.laws.specs.Bools.{both, either, eqb-sym}
 use Rattle.fold_laws.specs.Signs.{signed, signed-net, odd-signed, even-not-neg, same-net}
-use Rattle.fold_laws.specs.Same.{_~_, ~core, ~refl, ~left, ~right, ~trans, ~path, ~flip, flip-flip, same-form-sym, same-left, newForm, sameBy, new-same, alike-true}
+use Rattle.fold_laws.specs.Same.{alike-true, same-left, same-form-sym, newForm, sameBy, new-same}
+use Rattle.fold_laws.specs.Same.{_~_, ~core, ~refl, ~left, ~right, ~trans, ~path, ~flip, flip-flip}
 use Rattle.fold_laws.specs.Table.{Entry, kindOf, at, repOf}
 use Rattle.fold_laws.specs.Entries.{split, rep-signed, own-over, NoneBelow}
 use Rattle.fold_laws.specs.Facts.{Laws, Operand}
@@ -36,10 +37,14 @@ pub data Shape (fs : List Form) (t : List Entry) (first u : ℕ) : Type 0 where
   base : (j : ℕ) → u < first → same (literalForm fs (positive u) .core) (leaf j) ≡ true → Shape fs t first u
   gate : (k : Bool) → OfKey fs t k u → Shape fs t first u
 
+-- the same form exactly if the same representative
+abbrev pub Tells : List Form → List Entry → ℕ → ℕ → Type 0
+Tells fs t l m = sameForm (literalForm fs l) (literalForm fs m) ≡ eqb (repOf t l) (repOf t m)
+
 -- of the nets below v
 pub record Inv (fs : List Form) (t : List Entry) (first v : ℕ) : Type 0 where
   pub shapes : (u : ℕ) → u < v → repOf t (positive u) ≡ positive u → Shape fs t first u
-  pub J : (l m : ℕ) → netOf l < v → netOf m < v → sameForm (literalForm fs l) (literalForm fs m) ≡ eqb (repOf t l) (repOf t m)
+  pub J : (l m : ℕ) → netOf l < v → netOf m < v → Tells fs t l m
 
 -- ---- forms of literals
 
@@ -84,6 +89,9 @@ self true f m = rw (not-alike (f .sign)) (sym (ne-eqb (neg m) m (omega arith)))
     not-alike true = refl
     not-alike false = refl
 self false f m = ~refl f .eq ∙ sym (eq-eqb m m refl)
+
+tells-sym : (fs : List Form) (t : List Entry) (l m : ℕ) → Tells fs t l m → Tells fs t m l
+tells-sym fs t l m e = same-form-sym (literalForm fs m) (literalForm fs l) ∙ e ∙ eqb-sym (repOf t l) (repOf t m)
 
 -- ---- one net more
 
@@ -149,16 +157,16 @@ module _ {fs : List Form} {t : List Entry} {N first v : ℕ} (laws : Laws t N) (
     lower : {m : Bool} {u l : ℕ} → u < v → Operand t u m l → Operand t v m l
     lower h p = record { below = omega (arith, p .below); own = p .own; plain = p .plain }
 
-    -- two gates of one kind whose keys are the same have one key
-    once : (m : Bool) → m ≡ k → (u : ℕ) → u < v → OfKey fs t m u
-        → sameBy m (literalForm fs (at t u .ka)) (literalForm fs (at t v .ka)) && sameBy m (literalForm fs (at t u .kb)) (literalForm fs (at t v .kb))
-        || sameBy m (literalForm fs (at t u .ka)) (literalForm fs (at t v .kb)) && sameBy m (literalForm fs (at t u .kb)) (literalForm fs (at t v .ka)) ≡ true
-        → ⊥
-    once m y u h p e =
+    -- no gate below has the core of this key: its key would be this one, since both are in order
+    once : (m : Bool) (u : ℕ) → u < v → OfKey fs t m u
+        → same (newForm m (literalForm fs (at t u .ka)) (literalForm fs (at t u .kb)) .core) (new .core) ≡ true → ⊥
+    once m u h p e =
+        let w = both (alike m k) _ (sym (new-same m k _ _ _ _) ∙ e) in
+        let y : m ≡ k = alike-true m k (w .0) in
         let q : OfKey fs t m v = rw y key in
         let a = lower h (p .first) in
         let b = lower h (p .second) in
-        let d = rw (by-rep m a (q .first), by-rep m b (q .second), by-rep m a (q .second), by-rep m b (q .first)) at e in
+        let d = rw (by-rep m a (q .first), by-rep m b (q .second), by-rep m a (q .second), by-rep m b (q .first)) at (w .1) in
         either (eqb (at t u .ka) (at t v .ka) && eqb (at t u .kb) (at t v .kb)) _ d
         (λ d.
         let c = both (eqb (at t u .ka) (at t v .ka)) _ d in
@@ -179,9 +187,7 @@ module _ {fs : List Form} {t : List Entry} {N first v : ℕ} (laws : Laws t N) (
         let d : Core = newForm m (literalForm fs (at t u .ka)) (literalForm fs (at t u .kb)) .core in
         let y : same (literalForm fs (positive u) .core) d ≡ true =
         rw (core-net fs (positive u) (at t u .core) (omega (arith, p .over))) (~core (p .form)) in
-        let z : same d (new .core) ≡ true = sym (same-left (literalForm fs (positive u) .core) d (new .core) y) ∙ e in
-        let w = both (alike m k) _ (sym (new-same m k _ _ _ _) ∙ z) in
-        once m (alike-true m k (w .0)) u h p (w .1)
+        once m u h p (sym (same-left (literalForm fs (positive u) .core) d (new .core) y) ∙ e)
 
     apart : (l : ℕ) → netOf l < v → same (literalForm fs l .core) (literalForm fs (positive v) .core) ≡ false
     apart l h = go (same (literalForm fs l .core) (literalForm fs (positive v) .core)) refl
@@ -206,19 +212,19 @@ module _ {fs : List Form} {t : List Entry} {N first v : ℕ} (laws : Laws t N) (
           J = λ l m d c.
               split (netOf l) v d
               (λ d. split (netOf m) v c (i .J l m d) (side l m d))
-              (λ d. split (netOf m) v c (λ c. same-form-sym (literalForm fs l) (literalForm fs m) ∙ side m l c d ∙ eqb-sym (repOf t m) (repOf t l)) (last l m d));
+              (λ d. split (netOf m) v c (λ c. tells-sym fs t m l (side m l c d)) (last l m d));
         }
       where
         rep-v : (l : ℕ) → netOf l ≡ v → repOf t l ≡ l
         rep-v l e = own-over t (positive v) l (omega arith) own
 
-        side : (l m : ℕ) → netOf l < v → netOf m ≡ v → sameForm (literalForm fs l) (literalForm fs m) ≡ eqb (repOf t l) (repOf t m)
+        side : (l m : ℕ) → netOf l < v → netOf m ≡ v → Tells fs t l m
         side l m d c =
             let b = laws .down l (omega arith) in
             other-core (literalForm fs l) (literalForm fs m) (rw (core-net fs m (positive v) (omega arith)) (apart l d))
             ∙ sym (ne-eqb (repOf t l) (repOf t m) (λ e. omega (arith, rep-v m c)))
 
-        last : (l m : ℕ) → netOf l ≡ v → netOf m ≡ v → sameForm (literalForm fs l) (literalForm fs m) ≡ eqb (repOf t l) (repOf t m)
+        last : (l m : ℕ) → netOf l ≡ v → netOf m ≡ v → Tells fs t l m
         last l m d c =
             let s : Bool = xorb (odd l) (odd m) in
             let y : l ≡ signed s m = same-net l m (d ∙ sym c) in

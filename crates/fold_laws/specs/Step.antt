@@ -9,22 +9,22 @@ use lib.Dec.{eqb, leb}
 use borrow.Author.Tests.{eqb-true, eq-eqb, ne-eqb, leb-true, leb-false}
 use Rattle.model.specs.Nets.{netOf, odd, xorb}
 use Rattle.model.specs.Clauses.{positive, neg}
-use Rattle.model.specs.Forms.{Form, form, flip, falseCore, never, always, sameForm, foldAnd, foldXor, xorCores, literalForm}
+use Rattle.model.specs.Forms.{Form, form, flip, falseCore, never, always, foldAnd, foldXor, xorCores, literalForm}
 use Rattle.laws.specs.Bools.{by-cond, either, xorb-self}
 use Rattle.laws.specs.Literals.{positive-even}
 use Rattle.fold_laws.specs.Signs.{signed, signed-net}
-use Rattle.fold_laws.specs.Same.{_~_, ~sym, ~trans, ~refl, ~path, ~flip, fold, newForm, sameBy, fold~, fold-swap, xor-flip}
+use Rattle.fold_laws.specs.Same.{_~_, ~sym, ~trans, ~path, ~flip, fold, newForm, sameBy, fold~, fold-swap, xor-flip}
 use Rattle.fold_laws.specs.Cases.{Made, AndCase, AndIs, andCase, and-is, andMade, XorCase, XorIs, xorCase, xor-is, xorMade, made, by-made}
 use Rattle.fold_laws.specs.Cases.Made.{is, key}
 use Rattle.fold_laws.specs.Cases.AndCase.{nil, pass, opp, pair}
 use Rattle.fold_laws.specs.Cases.XorCase.{pass, same, pair}
 use Rattle.fold_laws.specs.Table.{Entry, at, repOf, ordered, part, signOf}
 use Rattle.fold_laws.specs.Entries.{split, kind-inj, rep-signed, own-over}
-use Rattle.fold_laws.specs.Facts.{Laws, Keyed, Stands, GateFact, Operand, zero-operand, operand}
-use Rattle.fold_laws.specs.Invariant.{OfKey, Shape, Inv, form-signed, rep-form, by-rep, merge, fresh}
+use Rattle.fold_laws.specs.Facts.{Laws, Stands, GateFact, Operand, zero-operand, operand}
+use Rattle.fold_laws.specs.Invariant.{Shape, Inv, form-signed, rep-form, by-rep, merge, fresh}
 use Rattle.fold_laws.specs.Invariant.Shape.{base, gate}
 
-pub positive-form : (fs : List Form) (v : ℕ) → literalForm fs (positive v) ≡ getD fs v never
+positive-form : (fs : List Form) (v : ℕ) → literalForm fs (positive v) ≡ getD fs v never
 unfolding literalForm
 positive-form fs v = let n : netOf (positive v) ≡ v = omega arith in rw (positive-even v, n)
 
@@ -65,6 +65,10 @@ module _ {fs : List Form} {t : List Entry} {N first v : ℕ} (laws : Laws t N) (
       F : ℕ → Form
       F = literalForm fs
 
+      -- no constant
+      inner : 2 ≤ a → (f : Form) → cond (eqb a 0 || eqb b 0) (F 0) (cond (eqb a 1) (F b) (cond (eqb b 1) (F a) f)) ≡ f
+      inner l f = rw (ne-eqb a 0 (omega arith), ne-eqb b 0 (omega arith), ne-eqb a 1 (omega arith), ne-eqb b 1 (omega arith))
+
       go : (c : AndCase) → AndIs a b c
           → cond (eqb a 0 || eqb b 0) (F 0)
           (cond (eqb a 1) (F b)
@@ -80,24 +84,8 @@ module _ {fs : List Form} {t : List Entry} {N first v : ℕ} (laws : Laws t N) (
           (λ e.
           by-cond (λ f. f ≡ F b) (eqb a 1) (λ _. refl)
           (λ _. by-cond (λ f. f ≡ F b) (eqb b 1) (λ _. ap F (eqb-true a b e)) (λ _. rw e))))
-      go opp d =
-          rw (
-            ne-eqb a 0 (omega arith),
-            ne-eqb b 0 (omega arith),
-            ne-eqb a 1 (omega arith),
-            ne-eqb b 1 (omega arith),
-            ne-eqb a b (omega arith),
-            eq-eqb a (neg b) (omega arith),
-          )
-      go pair d =
-          rw (
-            ne-eqb a 0 (omega arith),
-            ne-eqb b 0 (omega arith),
-            ne-eqb a 1 (omega arith),
-            ne-eqb b 1 (omega arith),
-            ne-eqb a b (omega arith),
-            ne-eqb a (neg b) (omega arith),
-          )
+      go opp d = inner (d .0) _ ∙ rw (ne-eqb a b (omega arith), eq-eqb a (neg b) (omega arith))
+      go pair d = inner (d .0) _ ∙ rw (ne-eqb a b (omega arith), ne-eqb a (neg b) (omega arith))
 
   xor-made : {a b : ℕ} → a ≤ b → Operand t v true a → Operand t v true b → (c : XorCase) → XorIs a b c
       → foldXor (literalForm fs a) (literalForm fs b) ≡ formOf true (xorMade c a b)
@@ -118,7 +106,9 @@ module _ {fs : List Form} {t : List Entry} {N first v : ℕ} (laws : Laws t N) (
           (newForm true (literalForm fs a) (literalForm fs b) .core))))
           ≡ formOf true (xorMade c a b)
       go pass d = rw (d, zero-form)
-      go same d = rw (ne-eqb a 0 (omega arith), ne-eqb b 0 (omega arith), d .1, eq-eqb b b refl, zero-form) (ap (λ s. form s falseCore) (xorb-self (literalForm fs b .sign)))
+      go same d =
+          rw (ne-eqb a 0 (omega arith), ne-eqb b 0 (omega arith), eq-eqb a b (d .1), d .1, zero-form)
+          (ap (λ (s : Bool). form s falseCore) (xorb-self (literalForm fs b .sign)))
       go pair d = rw (ne-eqb a 0 (omega arith), ne-eqb b 0 (omega arith), ne-eqb a b (omega arith))
 
   fold-made : (k : Bool) {a b : ℕ} → a ≤ b → Operand t v k a → Operand t v k b
@@ -189,7 +179,7 @@ module _ {fs : List Form} {t : List Entry} {N first v : ℕ} (laws : Laws t N) (
   step k x y hx hy f =
       by-cond (λ (m : Made). Stands t first k n m → Inv fs t first (suc v)) (leb a b)
       (λ c. next-made k n over (part-of x hx) (part-of y hy) (leb-true a b c) like)
-      (λ c. next-made k n over (part-of y hy) (part-of x hx) (omega (arith, leb-false a b c)) (~trans like (fold-swap k (literalForm fs a) (literalForm fs b))))
+      (λ c. next-made k n over (part-of y hy) (part-of x hx) (omega (arith, leb-false a b c)) (~trans like (fold-swap k _ _)))
     where
       p : ℕ
       p = repOf t x

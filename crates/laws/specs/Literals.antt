@@ -30,6 +30,10 @@ neg-odd l = go (odd l) refl
     go true e = ne-eqb (neg l % 2) 1 (omega (arith, eqb-true (l % 2) 1 e))
     go false e = let n : l % 2 ≡ 1 → ⊥ = eqb-false (l % 2) 1 e in eq-eqb (neg l % 2) 1 (omega arith)
 
+-- a gate that reads nets below t has literals over nets below t
+pub literals-below : (t : ℕ) (g : Gate) → readsBelow t g ≡ true → (netOf (g .x) < t) × (netOf (g .y) < t)
+literals-below t g h = let b = both (isBelow t (g .x)) (isBelow t (g .y)) h in (ltb-true _ _ (b .0), ltb-true _ _ (b .1))
+
 -- ---- values
 
 module _ (vs : List Bool) where
@@ -59,8 +63,5 @@ literal-extends {vs} l p h = rw (p .eq, List·getD-append vs (p .more) false (ne
 pub gate-extends : {vs w : List Bool} (g : Gate) → Extends vs w → readsBelow (length vs) g ≡ true → gate w g ≡ gate vs g
 unfolding gate
 gate-extends {vs} g p h =
-    let b = both (isBelow (length vs) (g .x)) (isBelow (length vs) (g .y)) h in
-    rw (
-      literal-extends (g .x) p (ltb-true (netOf (g .x)) (length vs) (b .0)),
-      literal-extends (g .y) p (ltb-true (netOf (g .y)) (length vs) (b .1)),
-    )
+    let b = literals-below (length vs) g h in
+    rw (literal-extends (g .x) p (b .0), literal-extends (g .y) p (b .1))
