@@ -14,21 +14,25 @@ use Rattle.laws.specs.Growing.{Extends}
 
 -- ---- net and sign
 
-positive-even : (v : ℕ) → odd (positive v) ≡ false
+pub positive-even : (v : ℕ) → odd (positive v) ≡ false
 positive-even v = ne-eqb (2 * v % 2) 1 (omega arith)
 
 negative-odd : (v : ℕ) → odd (negative v) ≡ true
 negative-odd v = eq-eqb ((2 * v + 1) % 2) 1 (omega arith)
 
-neg-net : (l : ℕ) → netOf (neg l) ≡ netOf l
+pub neg-net : (l : ℕ) → netOf (neg l) ≡ netOf l
 neg-net l = omega arith
 
-neg-odd : (l : ℕ) → odd (neg l) ≡ not (odd l)
+pub neg-odd : (l : ℕ) → odd (neg l) ≡ not (odd l)
 neg-odd l = go (odd l) refl
   where
     go : (b : Bool) → odd l ≡ b → odd (neg l) ≡ not b
     go true e = ne-eqb (neg l % 2) 1 (omega (arith, eqb-true (l % 2) 1 e))
     go false e = let n : l % 2 ≡ 1 → ⊥ = eqb-false (l % 2) 1 e in eq-eqb (neg l % 2) 1 (omega arith)
+
+-- a gate that reads nets below t has literals over nets below t
+pub literals-below : (t : ℕ) (g : Gate) → readsBelow t g ≡ true → (netOf (g .x) < t) × (netOf (g .y) < t)
+literals-below t g h = let b = both (isBelow t (g .x)) (isBelow t (g .y)) h in (ltb-true _ _ (b .0), ltb-true _ _ (b .1))
 
 -- ---- values
 
@@ -59,8 +63,5 @@ literal-extends {vs} l p h = rw (p .eq, List·getD-append vs (p .more) false (ne
 pub gate-extends : {vs w : List Bool} (g : Gate) → Extends vs w → readsBelow (length vs) g ≡ true → gate w g ≡ gate vs g
 unfolding gate
 gate-extends {vs} g p h =
-    let b = both (isBelow (length vs) (g .x)) (isBelow (length vs) (g .y)) h in
-    rw (
-      literal-extends (g .x) p (ltb-true (netOf (g .x)) (length vs) (b .0)),
-      literal-extends (g .y) p (ltb-true (netOf (g .y)) (length vs) (b .1)),
-    )
+    let b = literals-below (length vs) g h in
+    rw (literal-extends (g .x) p (b .0), literal-extends (g .y) p (b .1))
