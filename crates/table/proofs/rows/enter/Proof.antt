@@ -1,0 +1,92 @@
+-- Five numbers stored in turn are a row put behind the others (`entered`).
+use Prim.Native.Nat.{ℕ, _*_}
+use mathlib.Core.Path.{sym, subst}
+use mathlib.Core.List.{List, [], _∷_, _++_}
+use native.Mathlib.Omega.{arith}
+use denote.Ref.{now}
+use lib.ListN.{length-set}
+use Rattle.table.specs.Rows.{rowWidth, entryOf, Holds}
+use Rattle.table.proofs.RowLaws.{row-stored, entered}
+use borrow.Author.Needs.{needs}
+use Rattle.table.proofs.rows.enter.Statement.{statement}
+use Rattle.table.proofs.rows.enter.Tie as tie
+use Rattle.table.proofs.rows.enter.Reads as reads
+use Rattle.table.proofs.rows.enter.Lts as lts
+
+mul-at : tie.Need-mul-at
+mul-at c = search needs
+
+mul-work : tie.Need-mul-work
+mul-work c = search needs
+
+slice-write-work : tie.Need-slice-write-work
+slice-write-work c = search needs
+
+add-work : tie.Need-add-work
+add-work c = search needs
+
+mul-work-2 : tie.Need-mul-work-2
+mul-work-2 c = search needs
+
+slice-write-work-2 : tie.Need-slice-write-work-2
+slice-write-work-2 c = simp length-set (omega (arith, c .pre))
+
+add-work-2 : tie.Need-add-work-2
+add-work-2 c = search needs
+
+mul-work-3 : tie.Need-mul-work-3
+mul-work-3 c = search needs
+
+slice-write-work-3 : tie.Need-slice-write-work-3
+slice-write-work-3 c = simp length-set (omega (arith, c .pre))
+
+add-work-3 : tie.Need-add-work-3
+add-work-3 c = search needs
+
+mul-work-4 : tie.Need-mul-work-4
+mul-work-4 c = search needs
+
+slice-write-work-4 : tie.Need-slice-write-work-4
+slice-write-work-4 c = simp length-set (omega (arith, c .pre))
+
+add-work-4 : tie.Need-add-work-4
+add-work-4 c = search needs
+
+mul-work-5 : tie.Need-mul-work-5
+mul-work-5 c = search needs
+
+slice-write-work-5 : tie.Need-slice-write-work-5
+slice-write-work-5 c = simp length-set (omega (arith, c .pre))
+
+same-length : tie.Need-same-length
+same-length c = search needs
+
+returns : tie.Need-returns
+returns c =
+    let a = c .args in
+    let e = a .e in
+    λ t h n.
+    subst (λ (w : List ℕ). Holds w (t ++ (entryOf e ∷ []))) (sym (row-stored (now (a .work)) (rowWidth * a .v) (e .rep) (e .kind) (e .ka) (e .kb) (e .core)))
+    (entered (now (a .work)) t (entryOf e) (a .v) (c .pre) h n)
+
+pub enter-spec : {M : Type 1} → statement M
+enter-spec =
+    tie.close
+    (tie.spec
+    mul-at
+    mul-work
+    slice-write-work
+    add-work
+    mul-work-2
+    slice-write-work-2
+    add-work-2
+    mul-work-3
+    slice-write-work-3
+    add-work-3
+    mul-work-4
+    slice-write-work-4
+    add-work-4
+    mul-work-5
+    slice-write-work-5
+    same-length
+    returns)
