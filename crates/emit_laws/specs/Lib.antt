@@ -4,3 +4,9 @@ pub mod Replay
 pub mod Trees
 pub mod Subst
 pub mod Stepwise
+pub mod Place
+pub mod CaseTrees
+pub mod Gates
+pub mod Loop
+pub mod Outputs
+pub mod Emit
