@@ -1,5 +1,5 @@
 -- All lines of the second pass (`emit`): the gates' lines by the loop, then the outputs' tree. For any table that the facts hold of and that
--- gives one representative to each pair of outputs, none is refused, they are few enough, and the last clause is empty.
+-- gives one representative to each pair of outputs, they refute the miter, and are few enough.
 use Prim.Native.Nat.{ℕ, suc, _+_, _-_, _*_, _≤_, _<_}
 use mathlib.Core.Path.{_≡_, refl, sym, ap, _∙_, subst}
 use mathlib.Core.Bool.{Bool, true, false, true≢false}
@@ -16,7 +16,7 @@ use Rattle.laws.specs.Pairs.{Pair}
 use Rattle.laws.specs.MiterOrder.{last, length-gates, length-z, z-at, ordered-gates, plain-gates}
 use Rattle.fold_laws.specs.Table.{Entry, repOf}
 use Rattle.fold_laws.specs.Facts.{Laws, Facts}
-use Rattle.emit_laws.specs.Replay.{extends-self, Has, Resolution, after, Fine, fine-append, after-append, length-after, extends-after}
+use Rattle.emit_laws.specs.Replay.{extends-self, Has, Resolution, after, Fine, fine-append, after-append, length-after, extends-after, Refutes}
 use Rattle.emit_laws.specs.Trees.{Tree, size, num, lay, length-lay, Derives, Laid, laid}
 use Rattle.emit_laws.specs.Subst.{unlessFalse, own, owned, Ready}
 use Rattle.emit_laws.specs.Place.{firstZClause, firstWClause, lastNumber, Block, miter-count, miter-at}
@@ -154,8 +154,7 @@ module _ (T : List Entry) (a b : Netlist) (ab : Pair a b) (f : Facts T (a .input
   end-laid : Laid L tree []
   end-laid = laid L tree [] derives
 
-  -- no line is refused
-  pub fine : Fine K steps
+  fine : Fine K steps
   unfolding emit
   fine =
       fine-append K lines (lay (lastNumber a b + length lines) tree) (ran .fine)
@@ -169,11 +168,22 @@ module _ (T : List Entry) (a b : Netlist) (ab : Pair a b) (f : Facts T (a .input
   unfolding emit
   length-steps = rw (length-append, length-lay)
 
-  pub some : 0 < length steps
-  some = omega (arith, length-steps, tree-num 0)
+  -- the clause of the outputs' tree is the last one
+  ends : Has (after K steps) (length K + length steps) []
+  unfolding emit
+  ends =
+      let n : ℕ = lastNumber a b + length lines in
+      let h : Has (after L (lay n tree)) (num n tree) [] =
+      subst (λ (m : ℕ). Has (after L (lay m tree)) (num m tree) []) length-l (end-laid .has) in
+      let e : num n tree ≡ length K + length steps = tree-num n .0 ∙ omega (arith, length-steps, miter-count a b ab) in
+      rw (after-append K lines (lay n tree)) (subst (λ (m : ℕ). Has (after L (lay n tree)) m []) e h)
 
-  -- they are within the bound
-  pub few : length steps ≤ lineBound a b
+  -- The emitted lines refute the miter.
+  pub refutes : Refutes (miter a b) (emit (repOf T) a b)
+  refutes = record { fine = fine; some = omega (arith, length-steps, tree-num 0); ends = ends }
+
+  -- They are within the bound.
+  pub few : length (emit (repOf T) a b) ≤ lineBound a b
   unfolding lastTree
   few =
       rw length-steps
@@ -184,13 +194,3 @@ module _ (T : List Entry) (a b : Netlist) (ab : Pair a b) (f : Facts T (a .input
         length-z a b ab,
         size-outs (repOf T) (linkOf links) (firstW a b) (firstWClause a b) (firstZ a b) (firstZClause a b) (lastNumber a b) (zGates a b),
       ))
-
-  -- the last clause is empty
-  pub ends : Has (after K steps) (length K + length steps) []
-  unfolding emit
-  ends =
-      let n : ℕ = lastNumber a b + length lines in
-      let h : Has (after L (lay n tree)) (num n tree) [] =
-      subst (λ (m : ℕ). Has (after L (lay m tree)) (num m tree) []) length-l (end-laid .has) in
-      let e : num n tree ≡ length K + length steps = tree-num n .0 ∙ omega (arith, length-steps, miter-count a b ab) in
-      rw (after-append K lines (lay n tree)) (subst (λ (m : ℕ). Has (after L (lay n tree)) m []) e h)

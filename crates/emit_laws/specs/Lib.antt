@@ -10,3 +10,5 @@ pub mod Gates
 pub mod Loop
 pub mod Outputs
 pub mod Emit
+pub mod Fields
+pub mod Text

@@ -1,7 +1,7 @@
 -- Resolutions replayed over a list of clauses: which set of literals a clause is (`Has`), one resolution, many. What is asked of one is
 -- `ValidResolve` of the acceptance rule, without text or store. A cut of sets in any order is one law (`cut-at`), since a clause is given by
 -- what it holds; and clauses are only added, so what is known of a clause goes on holding (`has-ext`).
-use Prim.Native.Nat.{ℕ, suc, _+_, _-_, _%_, _≤_}
+use Prim.Native.Nat.{ℕ, suc, _+_, _-_, _%_, _≤_, _<_}
 use mathlib.Core.Path.{_≡_, refl, sym, ap, _∙_, subst}
 use mathlib.Core.Bool.{cond}
 use mathlib.Core.List.{List, [], _∷_, _++_, append-assoc, append-nil}
@@ -164,3 +164,9 @@ pub extends-after : (K : List Clause) (rs : List Resolution) → Extends K (afte
 unfolding after
 extends-after K [] = extends-self K
 extends-after K (r ∷ rs) = extends-then (record { more = result K r ∷ []; eq = refl }) (extends-after (K ++ (result K r ∷ [])) rs)
+
+-- A refutation of K: resolutions of which none is refused, and the last gives the empty clause.
+pub record Refutes (K : List Clause) (rs : List Resolution) : Type 0 where
+  pub fine : Fine K rs
+  pub some : 0 < length rs
+  pub ends : Has (after K rs) (length K + length rs) []
