@@ -1,6 +1,9 @@
 -- Tests and choices: what the library lacks of Bool, each by cases.
+use Prim.Native.Nat.{ℕ}
 use mathlib.Core.Path.{_≡_, refl, sym}
 use mathlib.Core.Bool.{Bool, true, false, not, _&&_, _||_, cond, true≢false, Bool·not-not}
+use lib.Dec.{eqb}
+use borrow.Author.Tests.{eqb-true, eqb-false, eq-eqb, ne-eqb}
 use Rattle.model.specs.Nets.{xorb}
 
 -- two tests that are passed together are each passed
@@ -12,6 +15,11 @@ both false b e = absurd (true≢false (sym e))
 pub neither : (a b : Bool) → a || b ≡ false → (a ≡ false) × (b ≡ false)
 neither true b e = absurd (true≢false e)
 neither false b e = (refl, e)
+
+-- one of two tests that is passed, told apart
+pub either : {P : Type 0} (a b : Bool) → a || b ≡ true → (a ≡ true → P) → (b ≡ true → P) → P
+either true b e f g = f refl
+either false b e f g = g e
 
 -- what stands before two alternatives may stand between them
 pub or-swap : (a b c : Bool) → a || (b || c) ≡ b || (a || c)
@@ -34,6 +42,33 @@ pub xorb-equal : (a b : Bool) → xorb a b ≡ false → a ≡ b
 xorb-equal true true e = refl
 xorb-equal true false e = e
 xorb-equal false b e = sym e
+
+-- exclusive or: nothing of one twice, the same of one and false, in any order
+pub xorb-self : (a : Bool) → xorb a a ≡ false
+xorb-self true = refl
+xorb-self false = refl
+
+pub xorb-false : (a : Bool) → xorb a false ≡ a
+xorb-false true = refl
+xorb-false false = refl
+
+pub xorb-comm : (a b : Bool) → xorb a b ≡ xorb b a
+xorb-comm true true = refl
+xorb-comm true false = refl
+xorb-comm false true = refl
+xorb-comm false false = refl
+
+pub xorb-assoc : (a b c : Bool) → xorb a (xorb b c) ≡ xorb (xorb a b) c
+xorb-assoc true b c = sym (xorb-not b c)
+xorb-assoc false b c = refl
+
+-- equality of numbers is tested either way round
+pub eqb-sym : (a b : ℕ) → eqb a b ≡ eqb b a
+eqb-sym a b = go (eqb a b) refl
+  where
+    go : (q : Bool) → eqb a b ≡ q → q ≡ eqb b a
+    go true e = sym (eq-eqb b a (sym (eqb-true a b e)))
+    go false e = sym (ne-eqb b a (λ h. eqb-false a b e (sym h)))
 
 -- a test of two Bools is passed at each of the four pairs
 abbrev pub AtAllPairs : (Bool → Bool → Bool) → Type 0

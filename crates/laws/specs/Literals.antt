@@ -14,16 +14,16 @@ use Rattle.laws.specs.Growing.{Extends}
 
 -- ---- net and sign
 
-positive-even : (v : ℕ) → odd (positive v) ≡ false
+pub positive-even : (v : ℕ) → odd (positive v) ≡ false
 positive-even v = ne-eqb (2 * v % 2) 1 (omega arith)
 
 negative-odd : (v : ℕ) → odd (negative v) ≡ true
 negative-odd v = eq-eqb ((2 * v + 1) % 2) 1 (omega arith)
 
-neg-net : (l : ℕ) → netOf (neg l) ≡ netOf l
+pub neg-net : (l : ℕ) → netOf (neg l) ≡ netOf l
 neg-net l = omega arith
 
-neg-odd : (l : ℕ) → odd (neg l) ≡ not (odd l)
+pub neg-odd : (l : ℕ) → odd (neg l) ≡ not (odd l)
 neg-odd l = go (odd l) refl
   where
     go : (b : Bool) → odd l ≡ b → odd (neg l) ≡ not b
