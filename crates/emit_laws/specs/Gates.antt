@@ -2,16 +2,16 @@
 -- its clauses exchanged with them, and that its trees then give what is to be kept of its net. Of the nets before it nothing is asked but
 -- what is kept of them (`Held`).
 use Prim.Native.Nat.{ℕ, _%_, _≤_, _<_}
-use mathlib.Core.Path.{_≡_, refl, ap, _∙_}
+use mathlib.Core.Path.{_≡_, refl, _∙_}
 use mathlib.Core.Bool.{Bool, true, false, _&&_, cond}
 use mathlib.Core.List.{List, [], _∷_}
 use native.Mathlib.Omega.{arith}
 use lib.ListN.{length, getD}
 use lib.Dec.{leb}
 use borrow.Author.Tests.{leb-true, leb-false}
-use Rattle.model.specs.Nets.{netOf, odd, xorb, bit}
+use Rattle.model.specs.Nets.{netOf, odd, xorb}
 use Rattle.model.specs.Clauses.{Clause, positive, neg}
-use Rattle.fold_laws.specs.Signs.{signed, signed-net, signed-back, bit-odd}
+use Rattle.fold_laws.specs.Signs.{signed, signed-net, signed-back}
 use Rattle.fold_laws.specs.Cases.{andCase, and-is, xorCase, xor-is, made}
 use Rattle.fold_laws.specs.Table.{Entry, at, repOf, kindOf, ordered, part}
 use Rattle.fold_laws.specs.Entries.{rep-signed, plain-part}
@@ -273,8 +273,7 @@ module _ (T : List Entry) (N first : ℕ) (laws : Laws T N) (K : List Clause) (l
       (λ l h. ready T N first K links v laws held (omega arith) l (omega arith))
       (m .x) (m .y) (omega arith) (omega arith) (keptOf (m .n))
       (xorCase (R T (m .x)) (R T (m .y))) _ _ _ _ b
-      (xor-is (R T (m .x)) (R T (m .y)) (i .rising)
-      (bit-odd (R T (m .x)) ∙ ap bit (i .x-plain)) (bit-odd (R T (m .y)) ∙ ap bit (i .y-plain))) f
+      (xor-is (R T (m .x)) (R T (m .y)) (i .rising) (i .x-plain) (i .y-plain)) f
       (kept-met true (m .n) (R T (m .x)) (R T (m .y)) (o .n))
 
   pub gate-ok : (o : Bool) (x y : ℕ) (k : ClauseNumbers) → Base K o (literals v x y) k → Over v (literals v x y)

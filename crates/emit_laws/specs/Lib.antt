@@ -12,3 +12,6 @@ pub mod Outputs
 pub mod Emit
 pub mod Fields
 pub mod Text
+pub mod Proof
+pub mod Statement
+pub mod Correct

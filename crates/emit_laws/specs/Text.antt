@@ -22,7 +22,7 @@ use Rattle.laws.specs.Pairs.{Pair}
 use Rattle.laws.specs.Reading.{lists-good}
 use Rattle.laws.specs.Appending.{lists-append}
 use Rattle.laws.specs.ListText.{textOf}
-use Rattle.laws.specs.Acceptance.{clausesAfter, AllValid, EndsEmpty, StepLines, ValidLines, ValidText, final, text-accepted}
+use Rattle.laws.specs.Acceptance.{clausesAfter, AllValid, EndsEmpty, StepLines, ValidLines, ValidText, final, ends-later, text-accepted}
 use Rattle.laws.specs.Acceptance.Means.{resolves}
 use Rattle.emit_laws.specs.Replay.{Has, Resolution, result, after, Fine, length-after, Refutes}
 use Rattle.emit_laws.specs.Place.{few-clauses}
@@ -77,15 +77,7 @@ ends-empty K t (r ∷ []) n h =
 ends-empty K t (r ∷ s ∷ rs) n h =
     let L : List Clause = K ++ (result K r ∷ []) in
     let e : length K + suc (suc (length rs)) ≡ length L + suc (length rs) = rw length-append (omega arith) in
-    let i = ends-empty L t (s ∷ rs) (omega arith) (subst (λ (m : ℕ). Has (after L (s ∷ rs)) m []) e h) in
-    record {
-      before = asStep r ∷ i .before;
-      a = i .a;
-      b = i .b;
-      v = i .v;
-      last = ap (λ (l : List Step). asStep r ∷ l) (i .last);
-      empty = i .empty;
-    }
+    ends-later (asStep r) (ends-empty L t (s ∷ rs) (omega arith) (subst (λ (m : ℕ). Has (after L (s ∷ rs)) m []) e h))
 
 -- ---- behind the lists' text
 
@@ -97,7 +89,7 @@ refutation-proves text l read rs h few =
     record {
       final = final valid;
       accepted = text-accepted (text ++ proofText rs) (clauseWidth * mostClauses) valid (rw (clauses-after K t rs, length-after K rs) room);
-      counted = length-map asStep rs;
+      counted = simp length-map;
       bytes = proof-bytes rs;
       bound = few;
     }
