@@ -1,7 +1,7 @@
 -- The engine's proof, the second pass over the table of the first: where no output differs in form it is a proof in the sense of the
 -- engine's promise, and so an engine that replies with it keeps that promise.
 use Prim.Native.Nat.{ℕ, suc, _+_, _*_, _≤_}
-use mathlib.Core.Path.{_≡_, refl, sym, ap, _∙_, subst}
+use mathlib.Core.Path.{_≡_, refl, sym, _∙_, subst}
 use mathlib.Core.Bool.{Bool, true, false, cond}
 use mathlib.Core.List.{List, [], _∷_, map}
 use native.Mathlib.Omega.{arith}
@@ -9,7 +9,7 @@ use lib.ListN.{length}
 use lib.Dec.{eqb}
 use borrow.Author.Tests.{eqb-true, leb-true}
 use Rattle.model.specs.Limits.{proofLineBytes}
-use Rattle.model.specs.Answers.{Answer, guard, zeros, bufferOf}
+use Rattle.model.specs.Answers.{Answer, zeros, bufferOf}
 use Rattle.model.specs.Answers.Answer.{ok, refused}
 use Rattle.model.specs.Nets.{Netlist, size}
 use Rattle.model.specs.Lists.{Lists, readLists}
@@ -79,13 +79,13 @@ proved text l read same =
 -- ---- the promise
 
 -- what it takes that a proof is due
-pub record Due (text : List ℕ) (bytes numbers : ℕ) (l : Lists) : Type 0 where
-  pub read : readLists text ≡ ok l
-  pub proof : proofLineBytes * lineBound (l .left) (l .right) ≤ bytes
-  pub work : working (l .left) (l .right) ≤ numbers
-  pub same : differing (l .left) (l .right) ≡ 0
+record Due (text : List ℕ) (bytes numbers : ℕ) (l : Lists) : Type 0 where
+  read : readLists text ≡ ok l
+  proof : proofLineBytes * lineBound (l .left) (l .right) ≤ bytes
+  work : working (l .left) (l .right) ≤ numbers
+  same : differing (l .left) (l .right) ≡ 0
 
-pub due : (text : List ℕ) (bytes numbers : ℕ) (l : Lists) → provable text bytes numbers ≡ ok l → Due text bytes numbers l
+due : (text : List ℕ) (bytes numbers : ℕ) (l : Lists) → provable text bytes numbers ≡ ok l → Due text bytes numbers l
 unfolding provable
 due text bytes numbers l e =
     let r = bind-ok (readLists text) e in

@@ -1,7 +1,7 @@
 -- A refutation of the miter, as text behind the lists' text, is accepted: it is a valid text in the sense of the acceptance rule, and the
 -- largest store has room for its clauses.
 use Prim.Native.Nat.{ℕ, suc, _+_, _-_, _*_, _≤_, _<_}
-use mathlib.Core.Path.{_≡_, refl, sym, ap, _∙_, subst}
+use mathlib.Core.Path.{_≡_, refl, sym, _∙_, subst}
 use mathlib.Core.List.{List, [], _∷_, _++_, map}
 use native.Mathlib.Omega.{arith}
 use lib.ListN.{length, length-append, length-map}
@@ -9,8 +9,7 @@ use lib.Seq.{getD-at}
 use Rattle.model.specs.Limits.{clauseWidth, mostClauses, proofLineBytes}
 use Rattle.model.specs.Answers.Answer.{ok}
 use Rattle.model.specs.Lines.{Line, lines}
-use Rattle.model.specs.Frames.{total, widths, lineOf}
-use Rattle.model.specs.Nets.{Netlist}
+use Rattle.model.specs.Frames.{total, widths}
 use Rattle.model.specs.Lists.{Lists, readLists}
 use Rattle.model.specs.Clauses.{Clause, join}
 use Rattle.model.specs.Miter.{miter, miterVars}
