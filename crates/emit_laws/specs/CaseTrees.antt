@@ -161,7 +161,13 @@ module _ (T : List Entry) (N first : ℕ) (laws : Laws T N) (E : ℕ → ℕ) (K
     and-ok nil k1 k2 k3 g i f d =
         links (omega arith)
         (link2-ok R E K n k1 x x
-        (record { first = ready x hx; second = ready x hx; low = omega arith; real = λ h. omega arith; same = same-false n x x i (i ∙ sym f) })
+        (record {
+          first = ready x hx;
+          second = ready x hx;
+          low = omega arith;
+          real = λ h. omega arith;
+          same = same-false n x x i (i ∙ sym f);
+        })
         (derives-same (g .one) (λ k. simp flat (simp sets))))
         (rw (claim-true f) tt)
     and-ok pass k1 k2 k3 g i f d =

@@ -1,5 +1,5 @@
--- All lines of the second pass (`emit`): the gates' lines by the loop, then the outputs' tree. For any table that the facts hold of and that
--- gives one representative to each pair of outputs, they refute the miter, and are few enough.
+-- All lines of the second pass (`emit`): the gates' lines by the loop, then the outputs' tree. For any table that the facts hold of and
+-- that gives one representative to each pair of outputs, they refute the miter, and are few enough.
 use Prim.Native.Nat.{ℕ, suc, _+_, _-_, _≤_, _<_}
 use mathlib.Core.Path.{_≡_, refl, sym, ap, _∙_, subst}
 use mathlib.Core.Bool.{Bool, true, false, true≢false}

@@ -1,5 +1,5 @@
--- Every number of a refutation fits its field of a line: a clause number is at most that of the last clause, and a pivot is a variable of the
--- miter, because a resolution brings no literal that its clauses have not.
+-- Every number of a refutation fits its field of a line: a clause number is at most that of the last clause, and a pivot is a variable of
+-- the miter, because a resolution brings no literal that its clauses have not.
 use Prim.Native.Nat.{ℕ, zero, suc, _+_, _-_, _*_, _^_, _≤_, _<_}
 use mathlib.Core.Path.{_≡_, refl, sym, _∙_}
 use mathlib.Core.Bool.{false, not, true, true≢false}
@@ -130,7 +130,7 @@ all-proper b K (r ∷ rs) u f h i = (
       (rw length-append (omega arith)),
 )
 
--- Lines over the miter that none is refused of, and for which a largest store has room, fit.
+-- Resolutions over the miter of which none is refused, and for whose clauses the largest store has room, fit their lines.
 pub lines-proper : (a b : Netlist) → Pair a b → (rs : List Resolution) → Fine (miter a b) rs
     → length (miter a b) + length rs ≤ mostClauses → AllProper rs
 lines-proper a b ab rs f room =

@@ -40,7 +40,7 @@ over-net n l P h p q = subst P (sym (same-net l n h)) (go (xorb (odd l) (odd n))
 
 -- ---- the numbers kept of a net
 
--- Where the trees were made for the odd literal, two numbers are the links of ¬n and n, and are exchanged: link l stands at l % 2.
+-- Two numbers are the links of n and ¬n. Link l is to stand at l % 2, so they are exchanged where n is odd.
 abbrev pub slots : Bool → List ℕ → List ℕ
 slots false ns = ns
 slots true [] = []
@@ -195,7 +195,8 @@ abbrev pub Placed : List Clause → ℕ → ℕ → List Gate → Type 0
 Placed K k v [] = Unit {0}
 Placed K k v (g ∷ gs) = Base K (isXor (g .op)) (literalsOf v g) (from k) × Placed K (k + clauseCount (g .op)) (suc v) gs
 
-base-at : {K : List Clause} (k v : ℕ) (o : Bool) (x y : ℕ) → Block K k (opClauses (cond o xor and) v x y) → Base K o (literals v x y) (from k)
+base-at : {K : List Clause} (k v : ℕ) (o : Bool) (x y : ℕ) → Block K k (opClauses (cond o xor and) v x y)
+    → Base K o (literals v x y) (from k)
 base-at k v false x y p = and-at k v x y p
 base-at k v true x y p = xor-at k v x y p
 
@@ -275,7 +276,9 @@ module _ (T : List Entry) (N first : ℕ) (laws : Laws T N) where
       let e : length L ≡ length K + sizes ts = length-after K ls ∙ ap (λ (i : ℕ). length K + i) (length-lays (length K) ts) in
       let more : List (List ℕ) = links ++ (slots (sign (repOf T) v g) (nums (length K) ts) ∷ []) in
       let next : ℕ = k + clauseCount (g .op) in
-      let r = loop-ok gs L more next (suc v) (h .held) (placed-ext _ _ gs (extends-after K ls) (p .1)) (f .1) (o .1) (omega arith) (omega arith) in
+      let r =
+      loop-ok gs L more next (suc v) (h .held) (placed-ext _ _ gs (extends-after K ls) (p .1)) (f .1) (o .1)
+      (omega arith) (omega arith) in
       let w : suc v + length gs ≡ v + suc (length gs) = omega arith in
       ran-more K ts _ _ _ (h .fine) (gate-size links k v g)
       (subst (λ (j : ℕ). Ran L (loop (repOf T) more (length K + sizes ts) next (suc v) gs) j (length gs)) w
