@@ -1,9 +1,10 @@
--- Tests and choices: what the library lacks of Bool, each by cases.
-use Prim.Native.Nat.{ℕ}
+-- Tests and choices: what the library lacks of Bool and of tests of numbers, each by cases.
+use Prim.Native.Nat.{ℕ, suc, _<_}
 use mathlib.Core.Path.{_≡_, refl, sym}
 use mathlib.Core.Bool.{Bool, true, false, not, _&&_, _||_, cond, true≢false, Bool·not-not}
-use lib.Dec.{eqb}
-use borrow.Author.Tests.{eqb-true, eqb-false, eq-eqb, ne-eqb}
+use native.Mathlib.Omega.{arith}
+use lib.Dec.{eqb, ltb}
+use borrow.Author.Tests.{eqb-true, eqb-false, eq-eqb, ne-eqb, ltb-true, ltb-false}
 use Rattle.model.specs.Nets.{xorb}
 
 -- two tests that are passed together are each passed
@@ -69,6 +70,14 @@ eqb-sym a b = go (eqb a b) refl
     go : (q : Bool) → eqb a b ≡ q → q ≡ eqb b a
     go true e = sym (eq-eqb b a (sym (eqb-true a b e)))
     go false e = sym (ne-eqb b a (λ h. eqb-false a b e (sym h)))
+
+-- a number up to v is below v, or v
+pub below-or-at : {P : Type 0} (u v : ℕ) → u < suc v → (u < v → P) → (u ≡ v → P) → P
+below-or-at {P} u v h f g = go (ltb u v) refl
+  where
+    go : (q : Bool) → ltb u v ≡ q → P
+    go true e = f (ltb-true u v e)
+    go false e = g (omega (arith, ltb-false u v e))
 
 -- a test of two Bools is passed at each of the four pairs
 abbrev pub AtAllPairs : (Bool → Bool → Bool) → Type 0
