@@ -1,4 +1,5 @@
--- Reading a table: representatives, what `find` finds, what a key's entry is, and where a table starts.
+-- Reading a table: representatives, what `find` finds, what a key's entry is, and how a table starts. These laws hold of every table, but for
+-- the last ones, of `tableOf`.
 use Prim.Native.Nat.{ℕ, zero, suc, _+_, _≤_, _<_}
 use mathlib.Core.Path.{_≡_, refl, sym, ap, _∙_}
 use mathlib.Core.Bool.{Bool, true, false, _&&_, cond, true≢false}
@@ -54,6 +55,7 @@ own-over t l m e o =
     let y : m ≡ signed c l = same-net m l e in
     ap (repOf t) y ∙ rep-signed t c l ∙ ap (signed c) o ∙ sym y
 
+-- they do where the net does
 pub own-rep : (t : List Entry) (l : ℕ) → at t (netOf l) .rep ≡ positive (netOf l) → repOf t l ≡ l
 unfolding repOf
 own-rep t l e = rw e (signed-positive l)
@@ -143,7 +145,7 @@ entered t k s a b v h e = go (ltb u v) refl (e ∙ rw long)
         let o : u ≡ v = omega (arith, ltb-false u v d, f .to) in
         new (rw o at (none (omega arith))) e
 
--- ---- where a table starts
+-- ---- how a table starts
 
 pub length-bases : (k n : ℕ) → length (bases k n) ≡ n
 unfolding bases
