@@ -1,6 +1,6 @@
--- All that is known of the first pass's table (T1 to T4 of the design) as one record, and that `tableOf` meets it. Nothing else is used of
--- the first pass: neither by the comparison with forms nor by the second pass, so another table need only meet this record.
--- The argument goes from net to net: a gate that stands for a literal below it is linked, and the net that keeps a key is its own.
+-- All that is known of the first pass's table, T1 to T4, as one record, and that `tableOf` meets it. Nothing else is used of the first pass,
+-- neither where forms are compared nor in the second pass: another table need only meet this record. The argument goes from net to net: a
+-- gate is linked to a literal below it that represents itself, or it is the first that has its key and represents itself.
 use Prim.Native.Nat.{ℕ, suc, _+_, _≤_, _<_}
 use mathlib.Core.Path.{_≡_, refl, sym, ap, _∙_}
 use mathlib.Core.Bool.{Bool, true, false, _&&_, and-false}
@@ -9,21 +9,23 @@ use native.Mathlib.Omega.{arith}
 use lib.ListN.{length, take}
 use lib.Dec.{ltb, leb}
 use borrow.Author.Tests.{ltb-true, ltb-false, leb-true, leb-false}
-use Rattle.model.specs.Nets.{Gate, netOf, odd, isBelow, readsBelow}
+use Rattle.model.specs.Nets.{Gate, netOf, odd}
 use Rattle.model.specs.Clauses.{positive, neg}
-use Rattle.laws.specs.Bools.{both, by-cond}
+use Rattle.laws.specs.Bools.{by-cond, below-or-at}
+use Rattle.laws.specs.Literals.{literals-below}
 use Rattle.laws.specs.Growing.{Grown, grown}
 use Rattle.laws.specs.Pairs.{Ordered, isXor}
 use Rattle.fold_laws.specs.Signs.{signed, signed-net, signed-back}
 use Rattle.fold_laws.specs.Cases.{Made, made, by-made}
 use Rattle.fold_laws.specs.Cases.Made.{is, key}
 use Rattle.fold_laws.specs.Table.{Entry, kindOf, baseEntry, blank, at, repOf, ordered, enter, part, signOf, enterGate, entry, bases, tableOf}
-use Rattle.fold_laws.specs.Entries.{split, kind-some, plain-part, rep-signed, rep-is, own-rep, rep-take, Hit, NoneBelow, Entered, entered, length-bases, length-table, table-base}
+use Rattle.fold_laws.specs.Entries.{kind-some, plain-part, rep-signed, rep-is, own-rep, rep-take, length-bases, length-table, table-base}
+use Rattle.fold_laws.specs.Entries.{Hit, NoneBelow, Entered, entered}
 use Rattle.fold_laws.specs.Entries.Entered.{old, new}
 
 -- ---- the record
 
--- T1: representatives of the nets below N
+-- T1: representatives of the nets below N. A representative represents itself, and so does every literal over its net.
 pub record Laws (t : List Entry) (N : ℕ) : Type 0 where
   pub bottom : repOf t 0 ≡ 0
   pub flip : (l : ℕ) → repOf t (neg l) ≡ neg (repOf t l)
@@ -130,7 +132,10 @@ linked-fact t v s r e z h o =
 -- the nets below first are no gates
 module _ (t : List Entry) (first : ℕ) (some : 0 < first) (base : (u : ℕ) → u < first → at t u ≡ baseEntry u) where
   input : (l : ℕ) → netOf l < first → repOf t l ≡ l
-  input l h = own-rep t l (ap (λ (x : Entry). x .rep) (base (netOf l) h))
+  input l h = own-rep t l (rw (base (netOf l) h))
+
+  base-fact : (u : ℕ) → u < first → Fact t u
+  base-fact u h = let z : at t u .ka ≡ 0 = rw (base u h) in own-fact t u (rw (base u h)) (λ x. absurd (omega arith))
 
   -- w is the first gate that has the key
   keyed : (w : ℕ) (k : Bool) (n a b : ℕ) → Kept t w → Hit t k a b w → NoneBelow t k a b w → repOf t n ≡ at t w .core → Keyed t first k n a b
@@ -147,21 +152,19 @@ module _ (t : List Entry) (first : ℕ) (some : 0 < first) (base : (u : ℕ) →
       }
     where
       from : (q : Bool) → ltb w first ≡ q → first ≤ w
-      from true d = absurd (kind-some k (sym (hit .kind) ∙ ap (λ (x : Entry). x .kind) (base w (ltb-true w first d))))
+      from true d = absurd (kind-some k (sym (hit .kind) ∙ rw (base w (ltb-true w first d))))
       from false d = ltb-false w first d
 
   -- net v, if its entry is this
-  abbrev Entry-facts : ℕ → Bool → Bool → Made → Type 0
-  Entry-facts v k s m = at t v ≡ enter (take v t) k s m → Fact t v × Stands t first k (signed s (positive v)) m
+  abbrev EntryFacts : ℕ → Bool → Bool → Made → Type 0
+  EntryFacts v k s m = at t v ≡ enter (take v t) k s m → Fact t v × Stands t first k (signed s (positive v)) m
 
   module _ (v : ℕ) (k s : Bool) (long : v < length t) (below : (u : ℕ) → u < v → Fact t u) where
-    of-literal : {r : ℕ} → Operand t v k r → Entry-facts v k s (is r)
+    of-literal : {r : ℕ} → Operand t v k r → EntryFacts v k s (is r)
     unfolding enter
-    of-literal {r} p e =
-        let d = ap (λ (x : Entry). x .rep) e in
-        (linked-fact t v s r d (ap (λ (x : Entry). x .ka) e) (p .below) (p .own), rep-is t v s r d)
+    of-literal {r} p e = (linked-fact t v s r (rw e) (rw e) (p .below) (p .own), rep-is t v s r (rw e))
 
-    of-key : {a b : ℕ} → Operand t v k b → 0 < a → Entry-facts v k s (key a b)
+    of-key : {a b : ℕ} → Operand t v k b → 0 < a → EntryFacts v k s (key a b)
     of-key {a} {b} q h e = go (entered t k s a b v long e)
       where
         n : ℕ
@@ -172,24 +175,17 @@ module _ (t : List Entry) (first : ℕ) (some : 0 < first) (base : (u : ℕ) →
             let kept : Kept t u = below u l .keeps (rw (hit .first) h) in
             let over = kept .over in
             let c : ℕ = at t u .core in
-            let d : at t v .rep ≡ signed s c = ap (λ (x : Entry). x .rep) e in (
-              linked-fact t v s c d (ap (λ (x : Entry). x .ka) e) (omega arith) (own-rep t c (rw over (kept .own))),
-              keyed u k n a b kept hit none (rep-is t v s c d),
-            )
+            let own : repOf t c ≡ c = own-rep t c (rw over (kept .own)) in
+            (linked-fact t v s c (rw e) (rw e) (omega arith) own, keyed u k n a b kept hit none (rep-is t v s c (rw e)))
         go (new none e) =
-            let own : at t v .rep ≡ positive v = ap (λ (x : Entry). x .rep) e in
-            let kb : at t v .kb ≡ b = ap (λ (x : Entry). x .kb) e in
-            let core : at t v .core ≡ n = ap (λ (x : Entry). x .core) e in
-            let half : netOf (positive v) ≡ v = omega arith in
-            let kept : Kept t v = record { own = own; below = rw kb (q .below); over = rw core (signed-net s (positive v) ∙ half) } in
-            let hit : Hit t k a b v = record { kind = ap (λ (x : Entry). x .kind) e; first = ap (λ (x : Entry). x .ka) e; second = kb } in (
-              own-fact t v own (λ _. kept),
-              keyed v k n a b kept hit none (rep-is t v s n (own ∙ sym (signed-back s (positive v))) ∙ sym core),
-            )
+            let over : netOf n ≡ v = signed-net s (positive v) ∙ omega arith in
+            let kept : Kept t v = record { own = rw e; below = rw e (q .below); over = rw e over } in
+            let hit : Hit t k a b v = record { kind = rw e; first = rw e; second = rw e } in
+            (own-fact t v (rw e) (λ _. kept), keyed v k n a b kept hit none (rep-is t v s n (rw (e, signed-back s (positive v))) ∙ (rw e)))
 
-    of-made : {a b : ℕ} → Operand t v k 0 → Operand t v k a → Operand t v k b → a ≤ b → Entry-facts v k s (made k a b)
+    of-made : {a b : ℕ} → Operand t v k 0 → Operand t v k a → Operand t v k b → a ≤ b → EntryFacts v k s (made k a b)
     of-made {a} {b} z p q h =
-        by-made (Entry-facts v k s) k a b h (p .plain) (q .plain) (of-literal z) (of-literal q) (λ c d. of-key q (omega arith))
+        by-made (EntryFacts v k s) k a b h (p .plain) (q .plain) (of-literal z) (of-literal q) (λ c d. of-key q (omega arith))
 
   gate-facts : (v : ℕ) (k : Bool) (x y : ℕ) → netOf x < v → netOf y < v → first ≤ v → v < length t → ((u : ℕ) → u < v → Fact t u)
       → at t v ≡ enterGate (take v t) k (repOf t x) (repOf t y) → Fact t v × GateFact t first v k x y
@@ -201,7 +197,7 @@ module _ (t : List Entry) (first : ℕ) (some : 0 < first) (base : (u : ℕ) →
       let b : ℕ = part k (repOf t y) in
       let p : Operand t v k a = operand laws v (omega arith) k x hx in
       let q : Operand t v k b = operand laws v (omega arith) k y hy in
-      by-cond (Entry-facts v k (signOf k (repOf t x) (repOf t y))) (leb a b)
+      by-cond (EntryFacts v k (signOf k (repOf t x) (repOf t y))) (leb a b)
       (λ c. of-made v k _ long below z p q (leb-true a b c))
       (λ c. of-made v k _ long below z q p (omega (arith, leb-false a b c)))
 
@@ -212,11 +208,10 @@ module _ (t : List Entry) (first : ℕ) (some : 0 < first) (base : (u : ℕ) →
   unfolding entry
   all-facts [] v o h long e f = (λ u d. f u (omega arith), tt)
   all-facts (g ∷ gs) v o h long e f =
-      let b = both (isBelow v (g .x)) (isBelow v (g .y)) (o .0) in
-      let hx = ltb-true (netOf (g .x)) v (b .0) in
-      let hy = ltb-true (netOf (g .y)) v (b .1) in
-      let p = gate-facts v (isXor (g .op)) (g .x) (g .y) hx hy h (omega arith) f (e .0 ∙ rw (rep-take t v (g .x) hx, rep-take t v (g .y) hy)) in
-      let q = all-facts gs (suc v) (o .1) (omega arith) (omega arith) (e .1) (λ u d. split u v d (f u) (λ c. rw c (p .0))) in
+      let b = literals-below v g (o .0) in
+      let d = rw (rep-take t v (g .x) (b .0), rep-take t v (g .y) (b .1)) at (e .0) in
+      let p = gate-facts v (isXor (g .op)) (g .x) (g .y) (b .0) (b .1) h (omega arith) f d in
+      let q = all-facts gs (suc v) (o .1) (omega arith) (omega arith) (e .1) (λ u d. below-or-at u v d (f u) (λ c. rw c (p .0))) in
       (λ u d. q .0 u (omega arith), (p .1, q .1))
 
 -- ---- the table
@@ -229,5 +224,5 @@ table-facts n gs o =
     let own : (l : ℕ) → netOf l < 1 + n → repOf t l ≡ l = input t (1 + n) (omega arith) base in
     let f = all-facts t (1 + n) (omega arith) base gs (1 + n) o (omega arith) (omega (arith, length-table n gs))
     (grown entry blank (bases 0 (1 + n)) gs (1 + n) (length-bases 0 (1 + n)))
-    (λ u h. own-fact t u (ap (λ (x : Entry). x .rep) (base u h)) (λ some. let z : at t u .ka ≡ 0 = ap (λ (x : Entry). x .ka) (base u h) in absurd (omega arith))) in
+    (base-fact t (1 + n) (omega arith) base) in
     record { laws = laws-of t (1 + n + length gs) (own 0 (omega arith)) (f .0); inputs = λ l h. own l (omega arith); gates = f .1 }

@@ -8,22 +8,23 @@ use native.Mathlib.Omega.{arith}
 use lib.ListN.{length, getD, take}
 use lib.Seq.{getD-take}
 use lib.Dec.{eqb}
-use borrow.Author.Tests.{eqb-true, eqb-false, eq-eqb, ltb-true}
-use Rattle.model.specs.Nets.{Op, Gate, netOf, odd, isBelow, readsBelow, grow}
+use borrow.Author.Tests.{eqb-true, eqb-false, eq-eqb}
+use Rattle.model.specs.Nets.{Op, Gate, netOf, odd, grow}
 use Rattle.model.specs.Nets.Op.{and, xor}
 use Rattle.model.specs.Clauses.{positive}
 use Rattle.model.specs.Forms.{Form, form, never, alike, same, sameForm, foldOp, literalForm, gateForm, leaves}
 use Rattle.model.specs.Forms.Core.{leaf}
-use Rattle.laws.specs.Bools.{both, xorb-false}
+use Rattle.laws.specs.Bools.{xorb-false}
+use Rattle.laws.specs.Literals.{literals-below}
 use Rattle.laws.specs.Growing.{Grown, grown, grow-front}
 use Rattle.laws.specs.Pairs.{Ordered, isXor, Plain}
 use Rattle.fold_laws.specs.Signs.{literal-ext}
-use Rattle.fold_laws.specs.Same.{same-refl, alike-true, alike-self, fold}
-use Rattle.fold_laws.specs.Table.{Entry, repOf}
-use Rattle.fold_laws.specs.Facts.{Laws, GateFact, GateFacts, Facts}
+use Rattle.fold_laws.specs.Same.{_≈_, same-refl, alike-true, alike-self, fold}
+use Rattle.fold_laws.specs.Table.{Entry}
+use Rattle.fold_laws.specs.Facts.{Laws, GateFacts, Facts}
 use Rattle.fold_laws.specs.Invariant.{Inv}
 use Rattle.fold_laws.specs.Invariant.Shape.{base}
-use Rattle.fold_laws.specs.Step.{positive-form, step}
+use Rattle.fold_laws.specs.Step.{step}
 
 -- ---- a list's forms
 
@@ -53,6 +54,7 @@ base-form n gs l h =
 
 -- ---- net 0 and the inputs
 
+-- two literals are one if their signs and their nets are
 literal-eqb : (l m : ℕ) → alike (odd l) (odd m) && eqb (netOf l) (netOf m) ≡ eqb l m
 literal-eqb l m = go (eqb l m) refl
   where
@@ -78,7 +80,7 @@ start n gs {t} f =
           (leaf-same (odd l) (odd m) (netOf l) (netOf m) ∙ literal-eqb l m);
     }
   where
-    eq-leaf : (u : ℕ) → same (leaf (netOf (positive u))) (leaf u) ≡ true
+    eq-leaf : (u : ℕ) → leaf (netOf (positive u)) ≈ leaf u
     eq-leaf u = let e : netOf (positive u) ≡ u = omega arith in rw e (same-refl (leaf u))
 
 -- ---- gate by gate
@@ -101,15 +103,15 @@ gate-form fs g v hx hy p =
     ∙ ap (λ (o : Op). foldOp o (literalForm fs (g .x)) (literalForm fs (g .y))) p
     ∙ plain-fold (isXor (g .op)) (literalForm fs (g .x)) (literalForm fs (g .y))
 
+-- the invariant goes on over the gates from net v up
 pass : {fs : List Form} {t : List Entry} {N first : ℕ} → Laws t N → literalForm fs 0 ≡ never
     → (gs : List Gate) (v : ℕ) → Ordered v gs → Plain gs → 0 < v → v + length gs ≤ N → Grown gateForm never fs v gs → GateFacts t first v gs
     → Inv fs t first v → Inv fs t first (v + length gs)
 pass {fs} {t} {N} {first} laws z [] v o p s n f e i = subst (Inv fs t first) (omega arith) i
 pass {fs} {t} {N} {first} laws z (g ∷ gs) v o p s n f e i =
-    let b = both (isBelow v (g .x)) (isBelow v (g .y)) (o .0) in
-    let hx = ltb-true (netOf (g .x)) v (b .0) in
-    let hy = ltb-true (netOf (g .y)) v (b .1) in
-    let j = step laws (omega arith) i z s (isXor (g .op)) (g .x) (g .y) hx hy (f .0 ∙ gate-form fs g v hx hy (p .0)) (e .0) in
+    let b = literals-below v g (o .0) in
+    let c = f .0 ∙ gate-form fs g v (b .0) (b .1) (p .0) in
+    let j = step laws (omega arith) i z s (isXor (g .op)) (g .x) (g .y) (b .0) (b .1) c (e .0) in
     subst (Inv fs t first) (omega arith) (pass laws z gs (suc v) (o .1) (p .1) (omega arith) (omega arith) (f .1) (e .1) j)
 
 -- representatives tell forms, and forms representatives

@@ -1,36 +1,32 @@
 -- Sameness of forms is an equivalence, and folding respects it, in both operands and in their order; an XOR's signs come off. Folding is by
 -- cases on its tests, which are the same for operands that are the same, and the same but for their order where operands are exchanged.
-use mathlib.Core.Path.{_≡_, refl, sym, ap, ap₂, _∙_}
-use mathlib.Core.Bool.{Bool, true, false, _&&_, _||_, cond, and-comm, or-comm, or-true, true≢false}
-use borrow.Author.Tests.{eqb-true, eq-eqb}
+use mathlib.Core.Path.{_≡_, refl, sym, ap, _∙_}
+use mathlib.Core.Bool.{Bool, true, false, not, _&&_, _||_, cond, and-comm, or-comm, or-true, true≢false}
+use borrow.Author.Tests.{eqb-true, eq-eqb, not-true}
 use Rattle.model.specs.Nets.{xorb}
 use Rattle.model.specs.Forms.{Core, Form, form, flip, falseCore, never, always, andCore, xorCore, alike, same, sameForm, foldAnd, xorCores, foldXor}
 use Rattle.model.specs.Forms.Core.{leaf, node}
-use Rattle.laws.specs.Bools.{both, either, xorb-comm, xorb-assoc, eqb-sym}
+use Rattle.laws.specs.Bools.{both, either, xorb-equal, xorb-self, xorb-comm, xorb-assoc, eqb-sym}
 
-infix 40 _~_
-infix 40 _≈_
 -- ---- signs
 
 pub alike-true : (a b : Bool) → alike a b ≡ true → a ≡ b
-alike-true true true e = refl
-alike-true true false e = sym e
-alike-true false true e = e
-alike-true false false e = refl
+alike-true a b e = xorb-equal a b (not-true (xorb a b) e)
 
 pub alike-self : (a : Bool) → alike a a ≡ true
-alike-self true = refl
-alike-self false = refl
+alike-self a = ap not (xorb-self a)
 
 alike-sym : (a b : Bool) → alike a b ≡ alike b a
-alike-sym true true = refl
-alike-sym true false = refl
-alike-sym false true = refl
-alike-sym false false = refl
+alike-sym a b = ap not (xorb-comm a b)
+
+alike-flip : (a b c : Bool) → alike (xorb a b) c ≡ alike b (xorb a c)
+alike-flip a b c = ap not (ap (λ (d : Bool). xorb d c) (xorb-comm a b) ∙ sym (xorb-assoc b a c))
 
 -- ---- cores
 
-abbrev _≈_ : Core → Core → Type 0
+-- the same core
+infix 40 _≈_
+abbrev pub _≈_ : Core → Core → Type 0
 _≈_ c d = same c d ≡ true
 
 quad : (a b c d : Bool) → a && b && (c && d) ≡ true → (a ≡ true) × (b ≡ true) × (c ≡ true) × (d ≡ true)
@@ -44,7 +40,7 @@ quad a b c d e =
 crossed : (z a b c d : Bool) → z && (a && b || c && d) ≡ z && (d && c || b && a)
 crossed z a b c d = rw (and-comm a b, and-comm c d, or-comm (b && a) (d && c))
 
-pub same-refl : (c : Core) → same c c ≡ true
+pub same-refl : (c : Core) → c ≈ c
 unfolding same
 same-refl (leaf k) = eq-eqb k k refl
 same-refl (node x s a t b) = rw (alike-self x, alike-self s, alike-self t, same-refl a, same-refl b)
@@ -55,21 +51,11 @@ same-sym (leaf j) (leaf k) = eqb-sym j k
 same-sym (leaf j) (node x s a t b) = refl
 same-sym (node x s a t b) (leaf k) = refl
 same-sym (node x s a t b) (node y p c q d) =
-    rw (
-      alike-sym x y,
-      alike-sym s p,
-      alike-sym t q,
-      alike-sym s q,
-      alike-sym t p,
-      same-sym a c,
-      same-sym b d,
-      same-sym a d,
-      same-sym b c,
-      and-comm (alike q s && same d a) (alike p t && same c b),
-    )
+    rw (alike-sym x y, alike-sym s p, alike-sym t q, alike-sym s q, alike-sym t p, same-sym a c, same-sym b d, same-sym a d, same-sym b c)
+    (rw (and-comm (alike q s && same d a) (alike p t && same c b)))
 
 -- the same to a third, so transitive
-pub same-left : (c d e : Core) → same c d ≡ true → same c e ≡ same d e
+pub same-left : (c d e : Core) → c ≈ d → same c e ≡ same d e
 unfolding same
 same-left (leaf j) (leaf k) e h = rw (eqb-true j k h)
 same-left (leaf j) (node x s a t b) e h = absurd (true≢false (sym h))
@@ -81,35 +67,29 @@ same-left (node x s a t b) (node y p c q d) (node z u e v f) h =
     either (alike s p && same a c && (alike t q && same b d)) _ (k .1)
     (λ h.
     let i = quad _ _ _ _ h in
-    rw (
-      m,
-      alike-true s p (i .0),
-      same-left a c e (i .1),
-      same-left a c f (i .1),
-      alike-true t q (i .2),
-      same-left b d e (i .3),
-      same-left b d f (i .3),
-    ))
+    let g = alike-true s p (i .0) in
+    let j = alike-true t q (i .2) in
+    cc (same-left a c e (i .1), same-left a c f (i .1), same-left b d e (i .3), same-left b d f (i .3)))
     (λ h.
     let i = quad _ _ _ _ h in
-    rw (
-      m,
-      alike-true s q (i .0),
+    let g = alike-true s q (i .0) in
+    let j = alike-true t p (i .2) in
+    cc (
       same-left a d e (i .1),
       same-left a d f (i .1),
-      alike-true t p (i .2),
       same-left b c e (i .3),
       same-left b c f (i .3),
-    )
-    (crossed (alike y z) (alike q u && same d e) (alike p v && same c f) (alike q v && same d f) (alike p u && same c e)))
+      crossed (alike y z) (alike q u && same d e) (alike p v && same c f) (alike q v && same d f) (alike p u && same c e),
+    ))
 
 -- ---- forms
 
 -- the same form
+infix 40 _~_
 pub record _~_ (f g : Form) : Type 0 where
   pub eq : sameForm f g ≡ true
 
-pub ~make : {f g : Form} → f .sign ≡ g .sign → same (f .core) (g .core) ≡ true → f ~ g
+~make : {f g : Form} → f .sign ≡ g .sign → f .core ≈ g .core → f ~ g
 unfolding sameForm
 ~make {f} {g} e c = record { eq = rw (e, c, alike-self (g .sign)) }
 
@@ -117,7 +97,7 @@ unfolding sameForm
 unfolding sameForm
 ~sign {f} {g} e = alike-true (f .sign) (g .sign) (both _ _ (e .eq) .0)
 
-pub ~core : {f g : Form} → f ~ g → same (f .core) (g .core) ≡ true
+pub ~core : {f g : Form} → f ~ g → f .core ≈ g .core
 unfolding sameForm
 ~core {f} {g} e = both (alike (f .sign) (g .sign)) _ (e .eq) .1
 
@@ -152,16 +132,10 @@ pub ~flip : (b : Bool) {f g : Form} → f ~ g → flip b f ~ flip b g
 pub flip-flip : (a b : Bool) (f : Form) → flip a (flip b f) ≡ flip (xorb a b) f
 flip-flip a b f = ap (λ (s : Bool). form s (f .core)) (xorb-assoc a b (f .sign))
 
-alike-flip : (s t : Bool) → alike (xorb true s) t ≡ alike s (xorb true t)
-alike-flip true true = refl
-alike-flip true false = refl
-alike-flip false true = refl
-alike-flip false false = refl
-
 -- opposite either way round
 opposite-sym : (f g : Form) → sameForm g (flip true f) ≡ sameForm f (flip true g)
 unfolding sameForm
-opposite-sym f g = rw (alike-sym (g .sign) (xorb true (f .sign)), alike-flip (f .sign) (g .sign), same-sym (g .core) (f .core))
+opposite-sym f g = rw (alike-sym (g .sign) (xorb true (f .sign)), alike-flip true (f .sign) (g .sign), same-sym (g .core) (f .core))
 
 -- ---- folding, by kind: AND, or XOR where k
 
