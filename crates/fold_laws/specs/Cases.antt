@@ -16,8 +16,10 @@ pub data Made : Type 0 where
   is : ℕ → Made
   key : ℕ → ℕ → Made
 
--- ---- an AND of a ≤ b: a constant, if there is one, is a
+-- ---- an AND of a ≤ b
 
+-- nil: a is false. pass: a is true or b, which gives b. opp: a is opposite to b, which gives false. pair: neither is a constant, and they are
+-- over different nets.
 pub data AndCase : Type 0 where
   nil pass opp pair : AndCase
 
@@ -53,6 +55,7 @@ and-is a b h =
 
 -- ---- an XOR of a ≤ b, both even
 
+-- pass: a is false, which gives b. same: a is b, which gives false. pair: as above.
 pub data XorCase : Type 0 where
   pass same pair : XorCase
 
@@ -82,7 +85,7 @@ xor-is a b h p q =
 
 -- ---- either
 
--- by the AND, or by the XOR where k
+-- what a and b make: as an XOR where k, else as an AND
 abbrev pub made : Bool → ℕ → ℕ → Made
 made false a b = andMade (andCase a b) a b
 made true a b = xorMade (xorCase a b) a b

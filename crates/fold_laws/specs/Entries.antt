@@ -1,4 +1,5 @@
--- Reading a table: representatives, what `find` finds, what a key's entry is, and where a table starts.
+-- Reading a table: representatives, what `find` finds, what a key's entry is, and how a table starts. These laws hold of every table, but for
+-- the last ones, of `tableOf`.
 use Prim.Native.Nat.{ℕ, zero, suc, _+_, _≤_, _<_}
 use mathlib.Core.Path.{_≡_, refl, sym, ap, _∙_}
 use mathlib.Core.Bool.{Bool, true, false, _&&_, cond, true≢false}
@@ -7,24 +8,16 @@ use native.Mathlib.Omega.{arith}
 use lib.ListN.{length, take}
 use lib.Seq.{getD-take, length-take-le}
 use lib.Dec.{eqb, ltb}
-use borrow.Author.Tests.{eqb-true, eqb-false, eq-eqb, ltb-true, ltb-false}
+use borrow.Author.Tests.{eqb-true, eq-eqb, ltb-true, ltb-false}
 use Rattle.model.specs.Nets.{Gate, netOf, odd, xorb}
 use Rattle.model.specs.Clauses.{positive}
-use Rattle.laws.specs.Bools.{both, by-cond, xorb-self}
+use Rattle.laws.specs.Bools.{both, by-cond, below-or-at, xorb-self}
 use Rattle.laws.specs.Literals.{positive-even}
 use Rattle.laws.specs.Growing.{grow-front, length-grow}
 use Rattle.fold_laws.specs.Signs.{signed, signed-net, odd-signed, signed-signed, signed-back, same-net, signed-positive}
 use Rattle.fold_laws.specs.Cases.Made.{key}
 use Rattle.fold_laws.specs.Table.{Entry, kindOf, baseEntry, linkedEntry, ownEntry, blank, at, repOf}
 use Rattle.fold_laws.specs.Table.{fits, find, enter, part, entry, bases, tableOf}
-
--- below v, or v
-pub split : {P : Type 0} (u v : ℕ) → u < suc v → (u < v → P) → (u ≡ v → P) → P
-split {P} u v h f g = go (ltb u v) refl
-  where
-    go : (q : Bool) → ltb u v ≡ q → P
-    go true e = f (ltb-true u v e)
-    go false e = g (omega (arith, ltb-false u v e))
 
 -- ---- kinds and signs
 
@@ -62,6 +55,7 @@ own-over t l m e o =
     let y : m ≡ signed c l = same-net m l e in
     ap (repOf t) y ∙ rep-signed t c l ∙ ap (signed c) o ∙ sym y
 
+-- they do where the net does
 pub own-rep : (t : List Entry) (l : ℕ) → at t (netOf l) .rep ≡ positive (netOf l) → repOf t l ≡ l
 unfolding repOf
 own-rep t l e = rw e (signed-positive l)
@@ -107,12 +101,12 @@ find-found k a b t (suc n) u =
     (λ e. record { from = omega arith; to = omega arith; hit = λ h. e; least = λ x h i. absurd (omega arith) })
     (λ e.
     let r : Found t k a b (suc u) (suc u + n) (find k a b t n (suc u)) = find-found k a b t n (suc u) in
-    record { from = omega arith; to = omega arith; hit = λ h. r .hit (omega arith); least = λ x h i. go x h i e r (eqb u x) refl })
-  where
-    go : (x : ℕ) → u ≤ x → x < find k a b t n (suc u) → fits k a b (at t u) ≡ false
-        → Found t k a b (suc u) (suc u + n) (find k a b t n (suc u)) → (q : Bool) → eqb u x ≡ q → fits k a b (at t x) ≡ false
-    go x h i e r true d = rw (← eqb-true u x d) e
-    go x h i e r false d = let m : u ≡ x → ⊥ = eqb-false u x d in r .least x (omega arith) i
+    record {
+      from = omega arith;
+      to = omega arith;
+      hit = λ h. r .hit (omega arith);
+      least = λ x h i. below-or-at u x (omega arith) (λ d. r .least x (omega arith) i) (λ d. rw (← d) e);
+    })
 
 -- no net below w fits
 abbrev pub NoneBelow : List Entry → Bool → ℕ → ℕ → ℕ → Type 0
@@ -151,7 +145,7 @@ entered t k s a b v h e = go (ltb u v) refl (e ∙ rw long)
         let o : u ≡ v = omega (arith, ltb-false u v d, f .to) in
         new (rw o at (none (omega arith))) e
 
--- ---- where a table starts
+-- ---- how a table starts
 
 pub length-bases : (k n : ℕ) → length (bases k n) ≡ n
 unfolding bases

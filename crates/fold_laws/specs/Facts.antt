@@ -1,6 +1,6 @@
--- All that is known of the first pass's table (T1 to T4 of the design) as one record, and that `tableOf` meets it. Nothing else is used of
--- the first pass: neither by the comparison with forms nor by the second pass, so another table need only meet this record.
--- The argument goes from net to net: a gate that stands for a literal below it is linked, and the net that keeps a key is its own.
+-- All that is known of the first pass's table, T1 to T4, as one record, and that `tableOf` meets it. Nothing else is used of the first pass,
+-- neither where forms are compared nor in the second pass: another table need only meet this record. The argument goes from net to net: a
+-- gate is linked to a literal below it that represents itself, or it is the first that has its key and represents itself.
 use Prim.Native.Nat.{ℕ, suc, _+_, _≤_, _<_}
 use mathlib.Core.Path.{_≡_, refl, sym, ap, _∙_}
 use mathlib.Core.Bool.{Bool, true, false, _&&_, and-false}
@@ -11,7 +11,7 @@ use lib.Dec.{ltb, leb}
 use borrow.Author.Tests.{ltb-true, ltb-false, leb-true, leb-false}
 use Rattle.model.specs.Nets.{Gate, netOf, odd}
 use Rattle.model.specs.Clauses.{positive, neg}
-use Rattle.laws.specs.Bools.{by-cond}
+use Rattle.laws.specs.Bools.{by-cond, below-or-at}
 use Rattle.laws.specs.Literals.{literals-below}
 use Rattle.laws.specs.Growing.{Grown, grown}
 use Rattle.laws.specs.Pairs.{Ordered, isXor}
@@ -19,13 +19,13 @@ use Rattle.fold_laws.specs.Signs.{signed, signed-net, signed-back}
 use Rattle.fold_laws.specs.Cases.{Made, made, by-made}
 use Rattle.fold_laws.specs.Cases.Made.{is, key}
 use Rattle.fold_laws.specs.Table.{Entry, kindOf, baseEntry, blank, at, repOf, ordered, enter, part, signOf, enterGate, entry, bases, tableOf}
-use Rattle.fold_laws.specs.Entries.{split, kind-some, plain-part, rep-signed, rep-is, own-rep, rep-take, length-bases, length-table, table-base}
+use Rattle.fold_laws.specs.Entries.{kind-some, plain-part, rep-signed, rep-is, own-rep, rep-take, length-bases, length-table, table-base}
 use Rattle.fold_laws.specs.Entries.{Hit, NoneBelow, Entered, entered}
 use Rattle.fold_laws.specs.Entries.Entered.{old, new}
 
 -- ---- the record
 
--- T1: representatives of the nets below N
+-- T1: representatives of the nets below N. A representative represents itself, and so does every literal over its net.
 pub record Laws (t : List Entry) (N : ℕ) : Type 0 where
   pub bottom : repOf t 0 ≡ 0
   pub flip : (l : ℕ) → repOf t (neg l) ≡ neg (repOf t l)
@@ -162,8 +162,7 @@ module _ (t : List Entry) (first : ℕ) (some : 0 < first) (base : (u : ℕ) →
   module _ (v : ℕ) (k s : Bool) (long : v < length t) (below : (u : ℕ) → u < v → Fact t u) where
     of-literal : {r : ℕ} → Operand t v k r → EntryFacts v k s (is r)
     unfolding enter
-    of-literal {r} p e =
-        (linked-fact t v s r (rw e) (rw e) (p .below) (p .own), rep-is t v s r (rw e))
+    of-literal {r} p e = (linked-fact t v s r (rw e) (rw e) (p .below) (p .own), rep-is t v s r (rw e))
 
     of-key : {a b : ℕ} → Operand t v k b → 0 < a → EntryFacts v k s (key a b)
     of-key {a} {b} q h e = go (entered t k s a b v long e)
@@ -176,7 +175,8 @@ module _ (t : List Entry) (first : ℕ) (some : 0 < first) (base : (u : ℕ) →
             let kept : Kept t u = below u l .keeps (rw (hit .first) h) in
             let over = kept .over in
             let c : ℕ = at t u .core in
-            (linked-fact t v s c (rw e) (rw e) (omega arith) (own-rep t c (rw over (kept .own))), keyed u k n a b kept hit none (rep-is t v s c (rw e)))
+            let own : repOf t c ≡ c = own-rep t c (rw over (kept .own)) in
+            (linked-fact t v s c (rw e) (rw e) (omega arith) own, keyed u k n a b kept hit none (rep-is t v s c (rw e)))
         go (new none e) =
             let over : netOf n ≡ v = signed-net s (positive v) ∙ omega arith in
             let kept : Kept t v = record { own = rw e; below = rw e (q .below); over = rw e over } in
@@ -211,7 +211,7 @@ module _ (t : List Entry) (first : ℕ) (some : 0 < first) (base : (u : ℕ) →
       let b = literals-below v g (o .0) in
       let d = rw (rep-take t v (g .x) (b .0), rep-take t v (g .y) (b .1)) at (e .0) in
       let p = gate-facts v (isXor (g .op)) (g .x) (g .y) (b .0) (b .1) h (omega arith) f d in
-      let q = all-facts gs (suc v) (o .1) (omega arith) (omega arith) (e .1) (λ u d. split u v d (f u) (λ c. rw c (p .0))) in
+      let q = all-facts gs (suc v) (o .1) (omega arith) (omega arith) (e .1) (λ u d. below-or-at u v d (f u) (λ c. rw c (p .0))) in
       (λ u d. q .0 u (omega arith), (p .1, q .1))
 
 -- ---- the table

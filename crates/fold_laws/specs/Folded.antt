@@ -19,7 +19,7 @@ use Rattle.laws.specs.Literals.{literals-below}
 use Rattle.laws.specs.Growing.{Grown, grown, grow-front}
 use Rattle.laws.specs.Pairs.{Ordered, isXor, Plain}
 use Rattle.fold_laws.specs.Signs.{literal-ext}
-use Rattle.fold_laws.specs.Same.{same-refl, alike-true, alike-self, fold}
+use Rattle.fold_laws.specs.Same.{_≈_, same-refl, alike-true, alike-self, fold}
 use Rattle.fold_laws.specs.Table.{Entry}
 use Rattle.fold_laws.specs.Facts.{Laws, GateFacts, Facts}
 use Rattle.fold_laws.specs.Invariant.{Inv}
@@ -54,6 +54,7 @@ base-form n gs l h =
 
 -- ---- net 0 and the inputs
 
+-- two literals are one if their signs and their nets are
 literal-eqb : (l m : ℕ) → alike (odd l) (odd m) && eqb (netOf l) (netOf m) ≡ eqb l m
 literal-eqb l m = go (eqb l m) refl
   where
@@ -79,7 +80,7 @@ start n gs {t} f =
           (leaf-same (odd l) (odd m) (netOf l) (netOf m) ∙ literal-eqb l m);
     }
   where
-    eq-leaf : (u : ℕ) → same (leaf (netOf (positive u))) (leaf u) ≡ true
+    eq-leaf : (u : ℕ) → leaf (netOf (positive u)) ≈ leaf u
     eq-leaf u = let e : netOf (positive u) ≡ u = omega arith in rw e (same-refl (leaf u))
 
 -- ---- gate by gate
@@ -102,6 +103,7 @@ gate-form fs g v hx hy p =
     ∙ ap (λ (o : Op). foldOp o (literalForm fs (g .x)) (literalForm fs (g .y))) p
     ∙ plain-fold (isXor (g .op)) (literalForm fs (g .x)) (literalForm fs (g .y))
 
+-- the invariant goes on over the gates from net v up
 pass : {fs : List Form} {t : List Entry} {N first : ℕ} → Laws t N → literalForm fs 0 ≡ never
     → (gs : List Gate) (v : ℕ) → Ordered v gs → Plain gs → 0 < v → v + length gs ≤ N → Grown gateForm never fs v gs → GateFacts t first v gs
     → Inv fs t first v → Inv fs t first (v + length gs)

@@ -13,12 +13,12 @@ use Rattle.model.specs.Nets.{netOf, xorb, odd}
 use Rattle.model.specs.Clauses.{positive, neg}
 use Rattle.model.specs.Forms.{Core, Form, flip, never, alike, same, sameForm, literalForm}
 use Rattle.model.specs.Forms.Core.{leaf}
-use Rattle.laws.specs.Bools.{both, either, eqb-sym}
+use Rattle.laws.specs.Bools.{both, either, eqb-sym, below-or-at}
 use Rattle.fold_laws.specs.Signs.{signed, signed-net, odd-signed, even-not-neg, same-net}
-use Rattle.fold_laws.specs.Same.{alike-true, same-left, same-form-sym, newForm, sameBy, new-same}
+use Rattle.fold_laws.specs.Same.{alike-true, _≈_, same-left, same-form-sym, newForm, sameBy, new-same}
 use Rattle.fold_laws.specs.Same.{_~_, ~core, ~refl, ~left, ~right, ~trans, ~path, ~flip, flip-flip}
 use Rattle.fold_laws.specs.Table.{Entry, kindOf, at, repOf}
-use Rattle.fold_laws.specs.Entries.{split, rep-signed, own-over, NoneBelow}
+use Rattle.fold_laws.specs.Entries.{rep-signed, own-over, NoneBelow}
 use Rattle.fold_laws.specs.Facts.{Laws, Operand}
 
 -- ---- the invariant
@@ -34,7 +34,7 @@ pub record OfKey (fs : List Form) (t : List Entry) (k : Bool) (u : ℕ) : Type 0
 
 -- what an own net's form is: that of net 0 or an input, which lie below first, or that of its key
 pub data Shape (fs : List Form) (t : List Entry) (first u : ℕ) : Type 0 where
-  base : (j : ℕ) → u < first → same (literalForm fs (positive u) .core) (leaf j) ≡ true → Shape fs t first u
+  base : (j : ℕ) → u < first → literalForm fs (positive u) .core ≈ leaf j → Shape fs t first u
   gate : (k : Bool) → OfKey fs t k u → Shape fs t first u
 
 -- the same form exactly if the same representative
@@ -96,70 +96,65 @@ tells-sym fs t l m e = same-form-sym (literalForm fs m) (literalForm fs l) ∙ e
 -- ---- one net more
 
 module _ {fs : List Form} {t : List Entry} {N first v : ℕ} (laws : Laws t N) (more : v < N) (i : Inv fs t first v) where
+  abbrev F : ℕ → Form
+  F = literalForm fs
+
   -- a literal and its representative
-  pub rep-form : (l : ℕ) → netOf l < v → literalForm fs l ~ literalForm fs (repOf t l)
+  pub rep-form : (l : ℕ) → netOf l < v → F l ~ F (repOf t l)
   rep-form l h =
       let b = laws .down l (omega arith) in
       record { eq = i .J l (repOf t l) h (omega arith) ∙ eq-eqb (repOf t l) (repOf t (repOf t l)) (sym (laws .idem l (omega arith))) }
 
   -- what a kind compares is told by representatives
-  pub by-rep : (k : Bool) {l m : ℕ} → Operand t v k l → Operand t v k m → sameBy k (literalForm fs l) (literalForm fs m) ≡ eqb l m
+  pub by-rep : (k : Bool) {l m : ℕ} → Operand t v k l → Operand t v k m → sameBy k (F l) (F m) ≡ eqb l m
   unfolding sameBy
   by-rep false {l} {m} p q = rw (i .J l m (p .below) (q .below), p .own, q .own)
   by-rep true {l} {m} p q =
-      cores (literalForm fs l) (literalForm fs m) (eqb l m) (i .J l m (p .below) (q .below) ∙ rw (p .own, q .own))
-      (ap (sameForm (literalForm fs l)) (sym (form-signed fs true m))
+      cores (F l) (F m) (eqb l m) (i .J l m (p .below) (q .below) ∙ rw (p .own, q .own))
+      (ap (sameForm (F l)) (sym (form-signed fs true m))
       ∙ i .J l (neg m) (p .below) (omega (arith, q .below))
       ∙ rw (p .own, rep-signed t true m, q .own, ne-eqb l (neg m) (even-not-neg l m (p .plain) (q .plain))))
 
   -- ---- a net that is another's literal
 
-  -- a literal of the nets below v in the place of l
-  record Copy (l : ℕ) : Type 0 where
-    literal : ℕ
-    below : netOf literal < v
-    like : literalForm fs l ~ literalForm fs literal
-    rep : repOf t l ≡ repOf t literal
-
-  pub merge : (n r : ℕ) → netOf n ≡ v → netOf r < v → repOf t r ≡ r → repOf t n ≡ r → literalForm fs n ~ literalForm fs r → Inv fs t first (suc v)
-  merge n r o h w e f =
+  -- up to v every literal has the form of its representative, which lies below v
+  pub merge : (n : ℕ) → netOf n ≡ v → netOf (repOf t n) < v → F n ~ F (repOf t n) → Inv fs t first (suc v)
+  merge n o h f =
       record {
-        shapes = λ u d x. split u v d (λ d. i .shapes u d x) (λ q. absurd (omega (arith, own-over t (positive u) n (omega arith) x)));
+        shapes = λ u d x. below-or-at u v d (λ d. i .shapes u d x) (λ q. absurd (omega (arith, own-over t (positive u) n (omega arith) x)));
         J = λ l m d c.
-            let a = copy l d in
-            let b = copy m c in
-            ~left (a .like) (literalForm fs m)
-            ∙ ~right (b .like) (literalForm fs (a .literal))
-            ∙ i .J (a .literal) (b .literal) (a .below) (b .below)
-            ∙ ap₂ eqb (sym (a .rep)) (sym (b .rep));
+            let a = linked l d in
+            let b = linked m c in
+            ~left (a .1) (F m)
+            ∙ ~right (b .1) (F (repOf t l))
+            ∙ i .J (repOf t l) (repOf t m) (a .0) (b .0)
+            ∙ ap₂ eqb (laws .idem l (omega arith)) (laws .idem m (omega arith));
       }
     where
-      copy : (l : ℕ) → netOf l < suc v → Copy l
-      copy l d =
-          split (netOf l) v d (λ d. record { literal = l; below = d; like = ~refl (literalForm fs l); rep = refl })
+      linked : (l : ℕ) → netOf l < suc v → (netOf (repOf t l) < v) × (F l ~ F (repOf t l))
+      linked l d =
+          below-or-at (netOf l) v d (λ d. (omega (arith, laws .down l (omega arith)), rep-form l d))
           (λ q.
           let c : Bool = xorb (odd l) (odd n) in
           let y : l ≡ signed c n = same-net l n (q ∙ sym o) in
-          record {
-            literal = signed c r;
-            below = rw (signed-net c r) h;
-            like = ~trans (~path (ap (literalForm fs) y ∙ form-signed fs c n)) (~trans (~flip c f) (~path (sym (form-signed fs c r))));
-            rep = ap (repOf t) y ∙ rep-signed t c n ∙ ap (signed c) (e ∙ sym w) ∙ sym (rep-signed t c r);
-          })
+          let z : repOf t l ≡ signed c (repOf t n) = ap (repOf t) y ∙ rep-signed t c n in (
+            rw (z, signed-net c (repOf t n)) h,
+            ~trans (~path (ap F y ∙ form-signed fs c n)) (~trans (~flip c f) (~path (sym (ap F z ∙ form-signed fs c (repOf t n))))),
+          ))
 
   -- ---- a net of its own, of a key that no net below has
 
   module _ (k : Bool) (own : repOf t (positive v) ≡ positive v) (key : OfKey fs t k v) (none : NoneBelow t k (at t v .ka) (at t v .kb) v) where
     -- the form that v's core is
     abbrev new : Form
-    new = newForm k (literalForm fs (at t v .ka)) (literalForm fs (at t v .kb))
+    new = newForm k (F (at t v .ka)) (F (at t v .kb))
 
     lower : {m : Bool} {u l : ℕ} → u < v → Operand t u m l → Operand t v m l
     lower h p = record { below = omega (arith, p .below); own = p .own; plain = p .plain }
 
     -- no gate below has the core of this key: its key would be this one, since both are in order
     once : (m : Bool) (u : ℕ) → u < v → OfKey fs t m u
-        → same (newForm m (literalForm fs (at t u .ka)) (literalForm fs (at t u .kb)) .core) (new .core) ≡ true → ⊥
+        → newForm m (F (at t u .ka)) (F (at t u .kb)) .core ≈ new .core → ⊥
     once m u h p e =
         let w = both (alike m k) _ (sym (new-same m k _ _ _ _) ∙ e) in
         let y : m ≡ k = alike-true m k (w .0) in
@@ -177,42 +172,41 @@ module _ {fs : List Form} {t : List Entry} {N first v : ℕ} (laws : Laws t N) (
         let g : at t u .kb ≡ at t v .ka = eqb-true _ _ (c .1) in
         omega (arith, p .rising, q .rising))
 
-    new-v : same (literalForm fs (positive v) .core) (new .core) ≡ true
+    new-v : F (positive v) .core ≈ new .core
     new-v = rw (core-net fs (positive v) (at t v .core) (omega (arith, key .over))) (~core (key .form))
 
     -- no own net below has this core
-    taken : (u : ℕ) → u < v → same (literalForm fs (positive u) .core) (new .core) ≡ true → Shape fs t first u → ⊥
-    taken u h e (base j z s) = true≢false (sym e ∙ same-left (literalForm fs (positive u) .core) (leaf j) (new .core) s ∙ leaf-new k j _ _)
+    taken : (u : ℕ) → u < v → F (positive u) .core ≈ new .core → Shape fs t first u → ⊥
+    taken u h e (base j z s) = true≢false (sym e ∙ same-left (F (positive u) .core) (leaf j) (new .core) s ∙ leaf-new k j _ _)
     taken u h e (gate m p) =
-        let d : Core = newForm m (literalForm fs (at t u .ka)) (literalForm fs (at t u .kb)) .core in
-        let y : same (literalForm fs (positive u) .core) d ≡ true =
-        rw (core-net fs (positive u) (at t u .core) (omega (arith, p .over))) (~core (p .form)) in
-        once m u h p (sym (same-left (literalForm fs (positive u) .core) d (new .core) y) ∙ e)
+        let d : Core = newForm m (F (at t u .ka)) (F (at t u .kb)) .core in
+        let y : F (positive u) .core ≈ d = rw (core-net fs (positive u) (at t u .core) (omega (arith, p .over))) (~core (p .form)) in
+        once m u h p (sym (same-left (F (positive u) .core) d (new .core) y) ∙ e)
 
-    apart : (l : ℕ) → netOf l < v → same (literalForm fs l .core) (literalForm fs (positive v) .core) ≡ false
-    apart l h = go (same (literalForm fs l .core) (literalForm fs (positive v) .core)) refl
+    apart : (l : ℕ) → netOf l < v → same (F l .core) (F (positive v) .core) ≡ false
+    apart l h = go (same (F l .core) (F (positive v) .core)) refl
       where
-        go : (q : Bool) → same (literalForm fs l .core) (literalForm fs (positive v) .core) ≡ q → q ≡ false
+        go : (q : Bool) → same (F l .core) (F (positive v) .core) ≡ q → q ≡ false
         go false e = refl
         go true e =
             let r : ℕ = repOf t l in
             let u : ℕ = netOf r in
             let b = laws .down l (omega arith) in
             let o : repOf t (positive u) ≡ positive u = own-over t r (positive u) (omega arith) (laws .idem l (omega arith)) in
-            let f : same (literalForm fs r .core) (new .core) ≡ true =
-            sym (same-left (literalForm fs l .core) (literalForm fs r .core) (new .core) (~core (rep-form l h)))
-            ∙ same-left (literalForm fs l .core) (literalForm fs (positive v) .core) (new .core) e
+            let f : F r .core ≈ new .core =
+            sym (same-left (F l .core) (F r .core) (new .core) (~core (rep-form l h)))
+            ∙ same-left (F l .core) (F (positive v) .core) (new .core) e
             ∙ new-v in
             absurd (taken u (omega arith) (rw (core-net fs (positive u) r (omega arith)) f) (i .shapes u (omega arith) o))
 
     pub fresh : Inv fs t first (suc v)
     fresh =
         record {
-          shapes = λ u d x. split u v d (λ d. i .shapes u d x) (λ q. rw q (gate k key));
+          shapes = λ u d x. below-or-at u v d (λ d. i .shapes u d x) (λ q. rw q (gate k key));
           J = λ l m d c.
-              split (netOf l) v d
-              (λ d. split (netOf m) v c (i .J l m d) (side l m d))
-              (λ d. split (netOf m) v c (λ c. tells-sym fs t m l (side m l c d)) (last l m d));
+              below-or-at (netOf l) v d
+              (λ d. below-or-at (netOf m) v c (i .J l m d) (side l m d))
+              (λ d. below-or-at (netOf m) v c (λ c. tells-sym fs t m l (side m l c d)) (last l m d));
         }
       where
         rep-v : (l : ℕ) → netOf l ≡ v → repOf t l ≡ l
@@ -221,13 +215,13 @@ module _ {fs : List Form} {t : List Entry} {N first v : ℕ} (laws : Laws t N) (
         side : (l m : ℕ) → netOf l < v → netOf m ≡ v → Tells fs t l m
         side l m d c =
             let b = laws .down l (omega arith) in
-            other-core (literalForm fs l) (literalForm fs m) (rw (core-net fs m (positive v) (omega arith)) (apart l d))
+            other-core (F l) (F m) (rw (core-net fs m (positive v) (omega arith)) (apart l d))
             ∙ sym (ne-eqb (repOf t l) (repOf t m) (λ e. omega (arith, rep-v m c)))
 
         last : (l m : ℕ) → netOf l ≡ v → netOf m ≡ v → Tells fs t l m
         last l m d c =
             let s : Bool = xorb (odd l) (odd m) in
             let y : l ≡ signed s m = same-net l m (d ∙ sym c) in
-            ap (λ (f : Form). sameForm f (literalForm fs m)) (ap (literalForm fs) y ∙ form-signed fs s m)
-            ∙ self s (literalForm fs m) m
+            ap (λ (f : Form). sameForm f (F m)) (ap F y ∙ form-signed fs s m)
+            ∙ self s (F m) m
             ∙ ap₂ eqb (sym (rep-v l d ∙ y)) (sym (rep-v m c))

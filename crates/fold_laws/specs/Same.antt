@@ -8,8 +8,6 @@ use Rattle.model.specs.Forms.{Core, Form, form, flip, falseCore, never, always,
 use Rattle.model.specs.Forms.Core.{leaf, node}
 use Rattle.laws.specs.Bools.{both, either, xorb-equal, xorb-self, xorb-comm, xorb-assoc, eqb-sym}
 
-infix 40 _~_
-infix 40 _≈_
 -- ---- signs
 
 pub alike-true : (a b : Bool) → alike a b ≡ true → a ≡ b
@@ -26,7 +24,9 @@ alike-flip a b c = ap not (ap (λ (d : Bool). xorb d c) (xorb-comm a b) ∙ sym 
 
 -- ---- cores
 
-abbrev _≈_ : Core → Core → Type 0
+-- the same core
+infix 40 _≈_
+abbrev pub _≈_ : Core → Core → Type 0
 _≈_ c d = same c d ≡ true
 
 quad : (a b c d : Bool) → a && b && (c && d) ≡ true → (a ≡ true) × (b ≡ true) × (c ≡ true) × (d ≡ true)
@@ -40,7 +40,7 @@ quad a b c d e =
 crossed : (z a b c d : Bool) → z && (a && b || c && d) ≡ z && (d && c || b && a)
 crossed z a b c d = rw (and-comm a b, and-comm c d, or-comm (b && a) (d && c))
 
-pub same-refl : (c : Core) → same c c ≡ true
+pub same-refl : (c : Core) → c ≈ c
 unfolding same
 same-refl (leaf k) = eq-eqb k k refl
 same-refl (node x s a t b) = rw (alike-self x, alike-self s, alike-self t, same-refl a, same-refl b)
@@ -55,7 +55,7 @@ same-sym (node x s a t b) (node y p c q d) =
     (rw (and-comm (alike q s && same d a) (alike p t && same c b)))
 
 -- the same to a third, so transitive
-pub same-left : (c d e : Core) → same c d ≡ true → same c e ≡ same d e
+pub same-left : (c d e : Core) → c ≈ d → same c e ≡ same d e
 unfolding same
 same-left (leaf j) (leaf k) e h = rw (eqb-true j k h)
 same-left (leaf j) (node x s a t b) e h = absurd (true≢false (sym h))
@@ -85,10 +85,11 @@ same-left (node x s a t b) (node y p c q d) (node z u e v f) h =
 -- ---- forms
 
 -- the same form
+infix 40 _~_
 pub record _~_ (f g : Form) : Type 0 where
   pub eq : sameForm f g ≡ true
 
-~make : {f g : Form} → f .sign ≡ g .sign → same (f .core) (g .core) ≡ true → f ~ g
+~make : {f g : Form} → f .sign ≡ g .sign → f .core ≈ g .core → f ~ g
 unfolding sameForm
 ~make {f} {g} e c = record { eq = rw (e, c, alike-self (g .sign)) }
 
@@ -96,7 +97,7 @@ unfolding sameForm
 unfolding sameForm
 ~sign {f} {g} e = alike-true (f .sign) (g .sign) (both _ _ (e .eq) .0)
 
-pub ~core : {f g : Form} → f ~ g → same (f .core) (g .core) ≡ true
+pub ~core : {f g : Form} → f ~ g → f .core ≈ g .core
 unfolding sameForm
 ~core {f} {g} e = both (alike (f .sign) (g .sign)) _ (e .eq) .1
 

@@ -10,7 +10,7 @@ use borrow.Author.Tests.{eqb-true, eq-eqb, ne-eqb, leb-true, leb-false}
 use Rattle.model.specs.Nets.{netOf, odd, xorb}
 use Rattle.model.specs.Clauses.{positive, neg}
 use Rattle.model.specs.Forms.{Form, form, flip, falseCore, never, always, foldAnd, foldXor, xorCores, literalForm}
-use Rattle.laws.specs.Bools.{by-cond, either, xorb-self}
+use Rattle.laws.specs.Bools.{by-cond, either, xorb-self, below-or-at}
 use Rattle.laws.specs.Literals.{positive-even}
 use Rattle.fold_laws.specs.Signs.{signed, signed-net}
 use Rattle.fold_laws.specs.Same.{_~_, ~sym, ~trans, ~path, ~flip, fold, newForm, sameBy, fold~, fold-swap, xor-flip}
@@ -19,7 +19,7 @@ use Rattle.fold_laws.specs.Cases.Made.{is, key}
 use Rattle.fold_laws.specs.Cases.AndCase.{nil, pass, opp, pair}
 use Rattle.fold_laws.specs.Cases.XorCase.{pass, same, pair}
 use Rattle.fold_laws.specs.Table.{Entry, at, repOf, ordered, part, signOf}
-use Rattle.fold_laws.specs.Entries.{split, kind-inj, rep-signed, own-over}
+use Rattle.fold_laws.specs.Entries.{kind-inj, rep-signed, own-over}
 use Rattle.fold_laws.specs.Facts.{Laws, Stands, GateFact, Operand, zero-operand, operand}
 use Rattle.fold_laws.specs.Invariant.{Shape, Inv, form-signed, rep-form, by-rep, merge, fresh}
 use Rattle.fold_laws.specs.Invariant.Shape.{base, gate}
@@ -30,11 +30,14 @@ positive-form fs v = let n : netOf (positive v) ≡ v = omega arith in rw (posit
 
 module _ {fs : List Form} {t : List Entry} {N first v : ℕ} (laws : Laws t N) (more : v < N) (i : Inv fs t first v)
     (zero-form : literalForm fs 0 ≡ never) (some : 0 < v) where
+  abbrev F : ℕ → Form
+  F = literalForm fs
+
   -- ---- forms are folded as representatives are
 
   formOf : Bool → Made → Form
-  formOf k (is r) = literalForm fs r
-  formOf k (key a b) = newForm k (literalForm fs a) (literalForm fs b)
+  formOf k (is r) = F r
+  formOf k (key a b) = newForm k (F a) (F b)
 
   zero-of : (k : Bool) → Operand t v k 0
   zero-of k = zero-operand laws v some k
@@ -42,11 +45,11 @@ module _ {fs : List Form} {t : List Entry} {N first v : ℕ} (laws : Laws t N) (
   neg-of : {a : ℕ} → Operand t v false a → Operand t v false (neg a)
   neg-of {a} p = record { below = omega (arith, p .below); own = rep-signed t true a ∙ ap neg (p .own); plain = refl }
 
-  one-form : literalForm fs 1 ≡ always
+  one-form : F 1 ≡ always
   one-form = form-signed fs true 0 ∙ ap (flip true) zero-form
 
   and-made : {a b : ℕ} → a ≤ b → Operand t v false a → Operand t v false b → (c : AndCase) → AndIs a b c
-      → foldAnd (literalForm fs a) (literalForm fs b) ≡ formOf false (andMade c a b)
+      → foldAnd (F a) (F b) ≡ formOf false (andMade c a b)
   unfolding foldAnd sameBy formOf
   and-made {a} {b} h p q c d =
       rw (
@@ -62,9 +65,6 @@ module _ {fs : List Form} {t : List Entry} {N first v : ℕ} (laws : Laws t N) (
       )
       (go c d)
     where
-      F : ℕ → Form
-      F = literalForm fs
-
       -- no constant
       inner : 2 ≤ a → (f : Form) → cond (eqb a 0 || eqb b 0) (F 0) (cond (eqb a 1) (F b) (cond (eqb b 1) (F a) f)) ≡ f
       inner l f = rw (ne-eqb a 0 (omega arith), ne-eqb b 0 (omega arith), ne-eqb a 1 (omega arith), ne-eqb b 1 (omega arith))
@@ -88,7 +88,7 @@ module _ {fs : List Form} {t : List Entry} {N first v : ℕ} (laws : Laws t N) (
       go pair d = inner (d .0) _ ∙ rw (ne-eqb a b (omega arith), ne-eqb a (neg b) (omega arith))
 
   xor-made : {a b : ℕ} → a ≤ b → Operand t v true a → Operand t v true b → (c : XorCase) → XorIs a b c
-      → foldXor (literalForm fs a) (literalForm fs b) ≡ formOf true (xorMade c a b)
+      → foldXor (F a) (F b) ≡ formOf true (xorMade c a b)
   unfolding foldXor xorCores sameBy formOf
   xor-made {a} {b} h p q c d =
       rw (
@@ -99,20 +99,20 @@ module _ {fs : List Form} {t : List Entry} {N first v : ℕ} (laws : Laws t N) (
       (go c d)
     where
       go : (c : XorCase) → XorIs a b c
-          → form (xorb (literalForm fs a .sign) (literalForm fs b .sign))
-          (cond (eqb a 0) (literalForm fs b .core)
-          (cond (eqb b 0) (literalForm fs a .core)
+          → form (xorb (F a .sign) (F b .sign))
+          (cond (eqb a 0) (F b .core)
+          (cond (eqb b 0) (F a .core)
           (cond (eqb a b) falseCore
-          (newForm true (literalForm fs a) (literalForm fs b) .core))))
+          (newForm true (F a) (F b) .core))))
           ≡ formOf true (xorMade c a b)
       go pass d = rw (d, zero-form)
       go same d =
           rw (ne-eqb a 0 (omega arith), ne-eqb b 0 (omega arith), eq-eqb a b (d .1), d .1, zero-form)
-          (ap (λ (s : Bool). form s falseCore) (xorb-self (literalForm fs b .sign)))
+          (ap (λ (s : Bool). form s falseCore) (xorb-self (F b .sign)))
       go pair d = rw (ne-eqb a 0 (omega arith), ne-eqb b 0 (omega arith), ne-eqb a b (omega arith))
 
   fold-made : (k : Bool) {a b : ℕ} → a ≤ b → Operand t v k a → Operand t v k b
-      → fold k (literalForm fs a) (literalForm fs b) ≡ formOf k (made k a b)
+      → fold k (F a) (F b) ≡ formOf k (made k a b)
   fold-made false {a} {b} h p q = and-made h p q (andCase a b) (and-is a b h)
   fold-made true {a} {b} h p q = xor-made h p q (xorCase a b) (xor-is a b h (p .plain) (q .plain))
 
@@ -120,15 +120,15 @@ module _ {fs : List Form} {t : List Entry} {N first v : ℕ} (laws : Laws t N) (
 
   -- by what its literal n stands for
   Next : Bool → ℕ → Made → Type 0
-  Next k n m = literalForm fs n ~ formOf k m → Stands t first k n m → Inv fs t first (suc v)
+  Next k n m = F n ~ formOf k m → Stands t first k n m → Inv fs t first (suc v)
 
   next-literal : (k : Bool) (n : ℕ) {r : ℕ} → netOf n ≡ v → Operand t v k r → Next k n (is r)
   unfolding Next formOf
-  next-literal k n {r} o p f e = merge laws more i n r o (p .below) (p .own) e f
+  next-literal k n o p f e = merge laws more i n o (rw e (p .below)) (rw e f)
 
   next-key : (k : Bool) (n : ℕ) {a b : ℕ} → netOf n ≡ v → Operand t v k a → Operand t v k b → netOf a < netOf b → Next k n (key a b)
   unfolding Next formOf
-  next-key k n {a} {b} o p q h f s = split w v (omega (arith, laws .down n (omega arith))) old new
+  next-key k n {a} {b} o p q h f s = below-or-at w v (omega (arith, laws .down n (omega arith))) old new
     where
       w : ℕ
       w = netOf (repOf t n)
@@ -141,7 +141,7 @@ module _ {fs : List Form} {t : List Entry} {N first v : ℕ} (laws : Laws t N) (
           go (base j z c) = absurd (omega (arith, s .from))
           go (gate m c) =
               let like = rw (kind-inj m k (sym (c .kind) ∙ s .kind), s .ka, s .kb, s .core) at (c .form) in
-              merge laws more i n (repOf t n) o d (laws .idem n (omega arith)) refl (~trans f (~sym like))
+              merge laws more i n o d (~trans f (~sym like))
 
       -- it is this one
       new : w ≡ v → Inv fs t first (suc v)
@@ -162,7 +162,7 @@ module _ {fs : List Form} {t : List Entry} {N first v : ℕ} (laws : Laws t N) (
           (rw (ka, kb) (rw e at (s .none)))
 
   next-made : (k : Bool) (n : ℕ) {a b : ℕ} → netOf n ≡ v → Operand t v k a → Operand t v k b → a ≤ b
-      → literalForm fs n ~ fold k (literalForm fs a) (literalForm fs b) → Stands t first k n (made k a b) → Inv fs t first (suc v)
+      → F n ~ fold k (F a) (F b) → Stands t first k n (made k a b) → Inv fs t first (suc v)
   unfolding Next
   next-made k n {a} {b} o p q h f =
       by-made (Next k n) k a b h (p .plain) (q .plain) (next-literal k n o (zero-of k)) (next-literal k n o q) (λ c d. next-key k n o p q d)
@@ -173,7 +173,7 @@ module _ {fs : List Form} {t : List Entry} {N first v : ℕ} (laws : Laws t N) (
   signs-off true c d f g = sym (xor-flip c d f g)
   signs-off false c d f g = refl
 
-  pub step : (k : Bool) (x y : ℕ) → netOf x < v → netOf y < v → getD fs v never ≡ fold k (literalForm fs x) (literalForm fs y)
+  pub step : (k : Bool) (x y : ℕ) → netOf x < v → netOf y < v → getD fs v never ≡ fold k (F x) (F y)
       → GateFact t first v k x y → Inv fs t first (suc v)
   unfolding ordered
   step k x y hx hy f =
@@ -202,9 +202,9 @@ module _ {fs : List Form} {t : List Entry} {N first v : ℕ} (laws : Laws t N) (
       part-of : (x : ℕ) → netOf x < v → Operand t v k (part k (repOf t x))
       part-of = operand laws v (omega arith) k
 
-      like : literalForm fs n ~ fold k (literalForm fs a) (literalForm fs b)
+      like : F n ~ fold k (F a) (F b)
       like =
           ~trans (~path (form-signed fs (signOf k p q) (positive v) ∙ ap (flip (signOf k p q)) (positive-form fs v ∙ f)))
           (~trans (~flip (signOf k p q) (fold~ k (rep-form laws more i x hx) (rep-form laws more i y hy)))
-          (~path (signs-off k (odd p) (odd q) (literalForm fs p) (literalForm fs q)
+          (~path (signs-off k (odd p) (odd q) (F p) (F q)
           ∙ ap₂ (fold k) (sym (form-signed fs (k && odd p) p)) (sym (form-signed fs (k && odd q) q)))))
