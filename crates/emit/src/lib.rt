@@ -1,0 +1,8 @@
+// The engine's second pass: from the table of the first, the lines of a proof. Each function emits the lines of a derivation, and its
+// contract names the derivation, for every table and all clause numbers that the working numbers stand for.
+pub mod ands; // an AND gate
+pub mod gates; // a gate in normal form
+pub mod kept; // what is kept of a gate
+pub mod lines; // one line
+pub mod subst; // representatives put for literals
+pub mod xors; // an XOR gate
