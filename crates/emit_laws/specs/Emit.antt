@@ -1,27 +1,26 @@
 -- All lines of the second pass (`emit`): the gates' lines by the loop, then the outputs' tree. For any table that the facts hold of and
 -- that gives one representative to each pair of outputs, they refute the miter, and are few enough.
 use Prim.Native.Nat.{ℕ, suc, _+_, _-_, _≤_, _<_}
-use mathlib.Core.Path.{_≡_, refl, sym, ap, _∙_, subst}
-use mathlib.Core.Bool.{Bool, true, false, true≢false}
+use mathlib.Core.Path.{_≡_, sym, ap, _∙_, subst}
+use mathlib.Core.Bool.{true≢false}
 use mathlib.Core.List.{List, [], _∷_, _++_}
 use native.Mathlib.Omega.{arith}
 use lib.ListN.{length, length-append, replicate, length-replicate}
-use lib.Dec.{eqb, ltb}
-use borrow.Author.Tests.{eqb-true, eqb-false, ltb-true, ltb-false}
 use Rattle.model.specs.Nets.{Gate, Netlist, netOf}
 use Rattle.model.specs.Clauses.{Clause, positive, negative, neg, allClauses}
 use Rattle.model.specs.Miter.{ws, firstGate, firstZ, firstW, gatesOf, zGates, miter}
 use Rattle.model.specs.Engine.{lineBound}
+use Rattle.laws.specs.Bools.{below-or-at}
 use Rattle.laws.specs.Pairs.{Pair}
 use Rattle.laws.specs.MiterOrder.{last, length-gates, length-z, z-at, ordered-gates, plain-gates}
 use Rattle.fold_laws.specs.Table.{Entry, repOf}
 use Rattle.fold_laws.specs.Facts.{Laws, Facts}
 use Rattle.emit_laws.specs.Replay.{extends-self, Has, Resolution, after, Fine, fine-append, after-append, length-after, extends-after, Refutes}
 use Rattle.emit_laws.specs.Trees.{Tree, size, num, lay, length-lay, Derives, Laid, laid}
-use Rattle.emit_laws.specs.Subst.{unlessFalse, own, owned, Ready}
+use Rattle.emit_laws.specs.Subst.{unlessFalse, owned, Ready}
 use Rattle.emit_laws.specs.Place.{firstZClause, firstWClause, lastNumber, Block, miter-count, miter-at}
 use Rattle.emit_laws.specs.Gates.{linkOf, Held, ready}
-use Rattle.emit_laws.specs.Loop.{Done, loop, placed, Ran, loop-ok}
+use Rattle.emit_laws.specs.Loop.{over-net, Done, loop, placed, Ran, loop-ok}
 use Rattle.emit_laws.specs.Outputs.{outsTree, size-outs, AllOneRep, outs-ok}
 
 -- ---- all lines
@@ -52,31 +51,19 @@ unfolding unlessFalse
 start-held T N i K laws inputs h =
     record {
       long = rw (length-replicate {A = List ℕ} i []) (omega arith);
-      link = λ l a o r. link l a o r (ltb 0 (netOf l)) refl;
+      link = λ l a o r.
+          below-or-at 0 (netOf l) (omega arith)
+          (λ p. absurd (true≢false (sym (owned (repOf T) l (inputs l (omega arith)) (omega arith)) ∙ o)))
+          (λ z. over-net 0 l Linked (sym z) (λ _. rw (laws .bottom) h) (λ q. absurd (q true-rep)) r);
       kept = λ l o a b. absurd (omega arith);
     }
   where
+    Linked : ℕ → Type 0
+    Linked l = (repOf T l ≡ 1 → ⊥) → Has K (linkOf (startLinks i) l) (neg l ∷ unlessFalse (repOf T l))
+
     -- over net 0 there are false and true
-    zeroth : (l : ℕ) → netOf l ≡ 0 → (repOf T l ≡ 1 → ⊥) → l ≡ 0
-    zeroth l z r = go (eqb l 0) refl
-      where
-        go : (b : Bool) → eqb l 0 ≡ b → l ≡ 0
-        go true e = eqb-true l 0 e
-        go false e =
-            let one : l ≡ neg 0 = omega (arith, eqb-false l 0 e) in
-            absurd (r (ap (repOf T) one ∙ laws .flip 0 ∙ ap neg (laws .bottom)))
-
-    zero-has : Has K (linkOf (startLinks i) 0) (neg 0 ∷ unlessFalse (repOf T 0))
-    zero-has = rw (laws .bottom) h
-
-    link : (l : ℕ) → netOf l < 1 + i → own (repOf T) l ≡ false → (repOf T l ≡ 1 → ⊥) → (b : Bool) → ltb 0 (netOf l) ≡ b
-        → Has K (linkOf (startLinks i) l) (neg l ∷ unlessFalse (repOf T l))
-    link l a o r true e =
-        let p : 0 < netOf l = ltb-true 0 (netOf l) e in
-        absurd (true≢false (sym (owned (repOf T) l (inputs l (omega arith)) (omega arith)) ∙ o))
-    link l a o r false e =
-        subst (λ (m : ℕ). Has K (linkOf (startLinks i) m) (neg m ∷ unlessFalse (repOf T m)))
-        (sym (zeroth l (omega (arith, ltb-false 0 (netOf l) e)) r)) zero-has
+    true-rep : repOf T (neg 0) ≡ 1
+    true-rep = laws .flip 0 ∙ ap neg (laws .bottom)
 
 -- ---- the outputs, of which there are some
 

@@ -7,14 +7,14 @@ use mathlib.Core.List.{List, [], _∷_, _++_}
 use native.Mathlib.Omega.{arith}
 use lib.ListN.{length, getD, length-append, List·getD-append}
 use lib.Seq.{getD-at}
-use lib.Dec.{ltb}
-use borrow.Author.Tests.{eqb-true, eqb-false, ne-eqb, ltb-true, ltb-false}
+use borrow.Author.Tests.{eqb-true, eqb-false, ne-eqb}
 use Rattle.model.specs.Limits.{linesPerGate}
-use Rattle.model.specs.Nets.{Op, Gate, netOf, odd, xorb, isBelow, readsBelow}
+use Rattle.model.specs.Nets.{Op, Gate, netOf, odd, xorb, readsBelow}
 use Rattle.model.specs.Nets.Op.{and, xor}
 use Rattle.model.specs.Clauses.{Clause, neg, opClauses, allClauses}
-use Rattle.laws.specs.Bools.{both}
+use Rattle.laws.specs.Bools.{below-or-at}
 use Rattle.laws.specs.Growing.{Extends}
+use Rattle.laws.specs.Literals.{literals-below}
 use Rattle.laws.specs.Pairs.{Ordered, isXor, Plain}
 use Rattle.fold_laws.specs.Signs.{signed, same-net}
 use Rattle.fold_laws.specs.Cases.{andCase, xorCase}
@@ -31,7 +31,7 @@ use Rattle.emit_laws.specs.CaseTrees.Settled.{linked, kept}
 use Rattle.emit_laws.specs.Gates.{Literals, literals, ClauseNumbers, Base, normal, normalNumbers, trees, Over, over-normal, linkOf, Held, gate-ok}
 
 -- over the net of n there are n and ¬n
-over-net : (n l : ℕ) (P : ℕ → Type 0) → netOf l ≡ netOf n → P n → P (neg n) → P l
+pub over-net : (n l : ℕ) (P : ℕ → Type 0) → netOf l ≡ netOf n → P n → P (neg n) → P l
 over-net n l P h p q = subst P (sym (same-net l n h)) (go (xorb (odd l) (odd n)))
   where
     go : (b : Bool) → P (signed b n)
@@ -85,8 +85,11 @@ module _ (T : List Entry) (N first : ℕ) (laws : Laws T N) where
   held-more K L links v ns held x f g =
       record {
         long = rw length-append (omega (arith, held .long));
-        link = λ l h o r. link l h o r (ltb (netOf l) v) refl;
-        kept = λ l o a h e d c. kept′ l o a h e d c (ltb (netOf l) v) refl;
+        link = λ l h o r.
+            below-or-at (netOf l) v h (λ q. rw (before l q) (has-ext x (held .link l q o r))) (λ q. rw (here l q) (f l q o r));
+        kept = λ l o a h r d c.
+            below-or-at (netOf l) v h (λ q. rw (before l q) (all-met-ext x (held .kept l o a q r d c)))
+            (λ q. rw (here l q, q) (g l o q r (rw q at d) (rw q at c)));
       }
     where
       before : (l : ℕ) → netOf l < v → getD (links ++ (ns ∷ [])) (netOf l) [] ≡ getD links (netOf l) []
@@ -94,21 +97,6 @@ module _ (T : List Entry) (N first : ℕ) (laws : Laws T N) where
 
       here : (l : ℕ) → netOf l ≡ v → getD (links ++ (ns ∷ [])) (netOf l) [] ≡ ns
       here l h = getD-at links ns [] [] (netOf l) (held .long ∙ sym h)
-
-      link : (l : ℕ) → netOf l < suc v → own R l ≡ false → (R l ≡ 1 → ⊥) → (b : Bool) → ltb (netOf l) v ≡ b
-          → Has L (linkOf (links ++ (ns ∷ [])) l) (neg l ∷ unlessFalse (R l))
-      link l h o r true e = let q : netOf l < v = ltb-true (netOf l) v e in rw (before l q) (has-ext x (held .link l q o r))
-      link l h o r false e = let q : netOf l ≡ v = omega (arith, ltb-false (netOf l) v e) in rw (here l q) (f l q o r)
-
-      kept′ : (l : ℕ) (o : Bool) → first ≤ netOf l → netOf l < suc v → R l ≡ l → at T (netOf l) .kind ≡ kindOf o
-          → at T (netOf l) .core ≡ l → (b : Bool) → ltb (netOf l) v ≡ b
-          → All₂ (Met L) (getD (links ++ (ns ∷ [])) (netOf l) []) (claims o l (at T (netOf l) .ka) (at T (netOf l) .kb))
-      kept′ l o a h r d c true e =
-          let q : netOf l < v = ltb-true (netOf l) v e in
-          rw (before l q) (all-met-ext x (held .kept l o a q r d c))
-      kept′ l o a h r d c false e =
-          let q : netOf l ≡ v = omega (arith, ltb-false (netOf l) v e) in
-          rw (here l q, q) (g l o q r (rw q at d) (rw q at c))
 
   claim-has : (L : List Clause) (c l : ℕ) → Met L c (linkClaim R l) → (R l ≡ 1 → ⊥) → Has L c (neg l ∷ unlessFalse (R l))
   unfolding linkClaim
@@ -226,8 +214,8 @@ trees-size R E true l k D = xor-size R E (l .n) (l .x) (l .y) D (xorCase (R (l .
 
 over-gate : (v : ℕ) (g : Gate) → readsBelow v g ≡ true → Over v (literalsOf v g)
 over-gate v g h =
-    let b = both (isBelow v (g .x)) (isBelow v (g .y)) h in
-    record { n = omega arith; x = ltb-true (netOf (g .x)) v (b .0); y = ltb-true (netOf (g .y)) v (b .1) }
+    let b = literals-below v g h in
+    record { n = omega arith; x = b .0; y = b .1 }
 
 module _ (T : List Entry) (N first : ℕ) (laws : Laws T N) where
   one-gate : (K : List Clause) (links : List (List ℕ)) (k v : ℕ) (g : Gate) → Held T first K links v
