@@ -38,6 +38,7 @@ unfoldable pub lastTree : (ℕ → ℕ) → List (List ℕ) → Netlist → Netl
 lastTree R links a b =
     outsTree R (linkOf links) (firstW a b) (firstWClause a b) (firstZ a b) (firstZClause a b) (lastNumber a b) (zGates a b)
 
+-- both
 unfoldable pub emit : (ℕ → ℕ) → Netlist → Netlist → List Resolution
 emit R a b =
     let r : Done = gateLines R a b in
@@ -67,12 +68,14 @@ start-held T N i K laws inputs h =
 
 -- ---- the outputs, of which there are some
 
+-- the tree ends in a line of its own
 num-outs : (R E : ℕ → ℕ) (n t kw z kz c : ℕ) (gs : List Gate) → 0 < length gs
     → (num n (outsTree R E t kw z kz c gs) ≡ n + size (outsTree R E t kw z kz c gs)) × (0 < size (outsTree R E t kw z kz c gs))
 unfolding outsTree
 num-outs R E n t kw z kz c [] h = absurd (omega arith)
 num-outs R E n t kw z kz c (g ∷ gs) h = (omega arith, omega arith)
 
+-- its clause is empty
 derives-outs : (T : List Entry) (N : ℕ) → Laws T N → (E : ℕ → ℕ) (K : List Clause)
     → ((l : ℕ) → netOf l < N → Ready (repOf T) E K l) → (gs : List Gate) (t kw z kz c o : ℕ) → length gs ≡ o → 0 < o
     → Block K kz (allClauses z gs) → Block K kw (allClauses t (ws (o - 1) t z (suc z))) → Has K c (positive (last (o - 1) t z) ∷ [])
@@ -155,7 +158,7 @@ module _ (T : List Entry) (a b : Netlist) (ab : Pair a b) (f : Facts T (a .input
   unfolding emit
   length-steps = rw (length-append, length-lay)
 
-  -- the clause of the outputs' tree is the last one
+  -- the clause of the outputs' tree is the last one, and empty
   ends : Has (after K steps) (length K + length steps) []
   unfolding emit
   ends =

@@ -48,12 +48,14 @@ slots true (a ∷ []) = a ∷ []
 slots true (a ∷ b ∷ []) = b ∷ a ∷ []
 slots true (a ∷ b ∷ c ∷ ns) = a ∷ b ∷ c ∷ ns
 
+-- clauses over a key are three or four, and stay
 slots-kept : {K : List Clause} (s o : Bool) (n a b : ℕ) (ns : List ℕ) → All₂ (Met K) ns (claims o n a b)
     → All₂ (Met K) (slots s ns) (claims o n a b)
 slots-kept false o n a b ns h = h
 slots-kept true false n a b ns (more p (more q (more r end))) = more p (more q (more r end))
 slots-kept true true n a b ns (more p (more q (more r (more s end)))) = more p (more q (more r (more s end)))
 
+-- each literal over the net of n finds its link
 slots-links : {K : List Clause} (n : ℕ) (ns : List ℕ) (C : ℕ → Claim) → All₂ (Met K) ns (C n ∷ C (neg n) ∷ [])
     → (l : ℕ) → netOf l ≡ netOf n → Met K (getD (slots (odd n) ns) (l % 2) 0) (C l)
 slots-links {K} n ns C (more {a = i} p (more {a = j} q end)) l h =
@@ -77,6 +79,7 @@ module _ (T : List Entry) (N first : ℕ) (laws : Laws T N) where
   abbrev R : ℕ → ℕ
   R = repOf T
 
+  -- what is kept goes on holding; of the new net f gives the links, and g the clauses over its key
   held-more : (K L : List Clause) (links : List (List ℕ)) (v : ℕ) (ns : List ℕ) → Held T first K links v → Extends K L
       → ((l : ℕ) → netOf l ≡ v → own R l ≡ false → (R l ≡ 1 → ⊥) → Has L (getD ns (l % 2) 0) (neg l ∷ unlessFalse (R l)))
       → ((l : ℕ) (o : Bool) → netOf l ≡ v → R l ≡ l → at T v .kind ≡ kindOf o → at T v .core ≡ l
@@ -98,6 +101,7 @@ module _ (T : List Entry) (N first : ℕ) (laws : Laws T N) where
       here : (l : ℕ) → netOf l ≡ v → getD (links ++ (ns ∷ [])) (netOf l) [] ≡ ns
       here l h = getD-at links ns [] [] (netOf l) (held .long ∙ sym h)
 
+  -- a link is there unless it is of a literal that stands for true
   claim-has : (L : List Clause) (c l : ℕ) → Met L c (linkClaim R l) → (R l ≡ 1 → ⊥) → Has L c (neg l ∷ unlessFalse (R l))
   unfolding linkClaim
   claim-has L c l h r = rw (ne-eqb (R l) 1 r) at h
@@ -107,6 +111,7 @@ module _ (T : List Entry) (N first : ℕ) (laws : Laws T N) where
     fine : Fine K (lays (length K) ts)
     held : Held T first (after K (lays (length K) ts)) (links ++ (slots (odd n) (nums (length K) ts) ∷ [])) (suc v)
 
+  -- linked: no literal over v stands for itself; kept: each does, and one of them is the core
   gate-ran : (K : List Clause) (links : List (List ℕ)) (v n a b : ℕ) (o : Bool) (ts : List Tree) → Held T first K links v → 0 < v
       → netOf n ≡ v → Settled T first K o n a b ts → GateRan K links v n ts
   gate-ran K links v n a b o ts held pos e (linked h g) =
@@ -207,6 +212,7 @@ placed-ext k v [] x p = tt
 placed-ext k v (g ∷ gs) x p =
     (base-ext (isXor (g .op)) (literalsOf v g) (from k) x (p .0), placed-ext (k + clauseCount (g .op)) (suc v) gs x (p .1))
 
+-- at most 16 lines
 trees-size : (R E : ℕ → ℕ) (o : Bool) (l : Literals) (k : ClauseNumbers) (D : List ℕ) → sizes (trees R E o l k D) ≤ linesPerGate
 unfolding trees
 trees-size R E false l k D = and-size R E (l .n) (l .x) (l .y) D (andCase (R (l .x)) (R (l .y))) (k .a) (k .b) (k .c)
