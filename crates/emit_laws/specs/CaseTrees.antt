@@ -6,12 +6,12 @@ use mathlib.Core.Bool.{Bool, true, false, _||_, cond}
 use mathlib.Core.List.{List, [], _∷_, _++_}
 use native.Mathlib.Omega.{arith}
 use lib.ListN.{getD}
-use lib.Dec.{eqb, ltb}
-use borrow.Author.Tests.{eqb-true, eqb-false, ne-eqb, ltb-true, ltb-false}
+use lib.Dec.{eqb}
+use borrow.Author.Tests.{eqb-true, eqb-false, ne-eqb}
 use Rattle.model.specs.Limits.{linesPerGate}
 use Rattle.model.specs.Nets.{netOf}
 use Rattle.model.specs.Clauses.{Clause, neg}
-use Rattle.laws.specs.Bools.{by-cond}
+use Rattle.laws.specs.Bools.{by-cond, below-or-at}
 use Rattle.fold_laws.specs.Signs.{signed-back}
 use Rattle.fold_laws.specs.Cases.{AndCase, AndIs, andMade, XorCase, XorIs, xorMade}
 use Rattle.fold_laws.specs.Cases.AndCase.{nil, pass, opp, pair}
@@ -132,11 +132,7 @@ module _ (T : List Entry) (N first : ℕ) (laws : Laws T N) (E : ℕ → ℕ) (K
 
     -- a representative that is not n is over a net below
     hit : (R n ≡ n → ⊥) → netOf (R n) < netOf n
-    hit h = go (ltb (netOf (R n)) (netOf n)) refl
-      where
-        go : (b : Bool) → ltb (netOf (R n)) (netOf n) ≡ b → netOf (R n) < netOf n
-        go true e = ltb-true (netOf (R n)) (netOf n) e
-        go false e = absurd (h (laws .fixed n fits (omega (arith, laws .down n fits, ltb-false (netOf (R n)) (netOf n) e))))
+    hit h = below-or-at (netOf (R n)) (netOf n) (omega (arith, laws .down n fits)) (λ p. p) (λ e. absurd (h (laws .fixed n fits e)))
 
     links : {o : Bool} {t u : Tree} → netOf (R n) < netOf n → Gives K t (linkClaim R n) → Gives K u (linkClaim R (neg n))
         → Settled T first K o n (R x) (R y) (t ∷ u ∷ [])

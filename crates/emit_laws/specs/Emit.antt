@@ -1,27 +1,26 @@
 -- All lines of the second pass (`emit`): the gates' lines by the loop, then the outputs' tree. For any table that the facts hold of and
 -- that gives one representative to each pair of outputs, they refute the miter, and are few enough.
 use Prim.Native.Nat.{ℕ, suc, _+_, _-_, _≤_, _<_}
-use mathlib.Core.Path.{_≡_, refl, sym, ap, _∙_, subst}
-use mathlib.Core.Bool.{Bool, true, false, true≢false}
+use mathlib.Core.Path.{_≡_, sym, ap, _∙_, subst}
+use mathlib.Core.Bool.{true≢false}
 use mathlib.Core.List.{List, [], _∷_, _++_}
 use native.Mathlib.Omega.{arith}
 use lib.ListN.{length, length-append, replicate, length-replicate}
-use lib.Dec.{eqb, ltb}
-use borrow.Author.Tests.{eqb-true, eqb-false, ltb-true, ltb-false}
 use Rattle.model.specs.Nets.{Gate, Netlist, netOf}
 use Rattle.model.specs.Clauses.{Clause, positive, negative, neg, allClauses}
 use Rattle.model.specs.Miter.{ws, firstGate, firstZ, firstW, gatesOf, zGates, miter}
 use Rattle.model.specs.Engine.{lineBound}
+use Rattle.laws.specs.Bools.{below-or-at}
 use Rattle.laws.specs.Pairs.{Pair}
 use Rattle.laws.specs.MiterOrder.{last, length-gates, length-z, z-at, ordered-gates, plain-gates}
 use Rattle.fold_laws.specs.Table.{Entry, repOf}
 use Rattle.fold_laws.specs.Facts.{Laws, Facts}
 use Rattle.emit_laws.specs.Replay.{extends-self, Has, Resolution, after, Fine, fine-append, after-append, length-after, extends-after, Refutes}
 use Rattle.emit_laws.specs.Trees.{Tree, size, num, lay, length-lay, Derives, Laid, laid}
-use Rattle.emit_laws.specs.Subst.{unlessFalse, own, owned, Ready}
+use Rattle.emit_laws.specs.Subst.{unlessFalse, owned, Ready}
 use Rattle.emit_laws.specs.Place.{firstZClause, firstWClause, lastNumber, Block, miter-count, miter-at}
 use Rattle.emit_laws.specs.Gates.{linkOf, Held, ready}
-use Rattle.emit_laws.specs.Loop.{Done, loop, placed, Ran, loop-ok}
+use Rattle.emit_laws.specs.Loop.{over-net, Done, loop, placed, Ran, loop-ok}
 use Rattle.emit_laws.specs.Outputs.{outsTree, size-outs, AllOneRep, outs-ok}
 
 -- ---- all lines
@@ -39,6 +38,7 @@ unfoldable pub lastTree : (ℕ → ℕ) → List (List ℕ) → Netlist → Netl
 lastTree R links a b =
     outsTree R (linkOf links) (firstW a b) (firstWClause a b) (firstZ a b) (firstZClause a b) (lastNumber a b) (zGates a b)
 
+-- both
 unfoldable pub emit : (ℕ → ℕ) → Netlist → Netlist → List Resolution
 emit R a b =
     let r : Done = gateLines R a b in
@@ -52,40 +52,30 @@ unfolding unlessFalse
 start-held T N i K laws inputs h =
     record {
       long = rw (length-replicate {A = List ℕ} i []) (omega arith);
-      link = λ l a o r. link l a o r (ltb 0 (netOf l)) refl;
+      link = λ l a o r.
+          below-or-at 0 (netOf l) (omega arith)
+          (λ p. absurd (true≢false (sym (owned (repOf T) l (inputs l (omega arith)) (omega arith)) ∙ o)))
+          (λ z. over-net 0 l Linked (sym z) (λ _. rw (laws .bottom) h) (λ q. absurd (q true-rep)) r);
       kept = λ l o a b. absurd (omega arith);
     }
   where
+    Linked : ℕ → Type 0
+    Linked l = (repOf T l ≡ 1 → ⊥) → Has K (linkOf (startLinks i) l) (neg l ∷ unlessFalse (repOf T l))
+
     -- over net 0 there are false and true
-    zeroth : (l : ℕ) → netOf l ≡ 0 → (repOf T l ≡ 1 → ⊥) → l ≡ 0
-    zeroth l z r = go (eqb l 0) refl
-      where
-        go : (b : Bool) → eqb l 0 ≡ b → l ≡ 0
-        go true e = eqb-true l 0 e
-        go false e =
-            let one : l ≡ neg 0 = omega (arith, eqb-false l 0 e) in
-            absurd (r (ap (repOf T) one ∙ laws .flip 0 ∙ ap neg (laws .bottom)))
-
-    zero-has : Has K (linkOf (startLinks i) 0) (neg 0 ∷ unlessFalse (repOf T 0))
-    zero-has = rw (laws .bottom) h
-
-    link : (l : ℕ) → netOf l < 1 + i → own (repOf T) l ≡ false → (repOf T l ≡ 1 → ⊥) → (b : Bool) → ltb 0 (netOf l) ≡ b
-        → Has K (linkOf (startLinks i) l) (neg l ∷ unlessFalse (repOf T l))
-    link l a o r true e =
-        let p : 0 < netOf l = ltb-true 0 (netOf l) e in
-        absurd (true≢false (sym (owned (repOf T) l (inputs l (omega arith)) (omega arith)) ∙ o))
-    link l a o r false e =
-        subst (λ (m : ℕ). Has K (linkOf (startLinks i) m) (neg m ∷ unlessFalse (repOf T m)))
-        (sym (zeroth l (omega (arith, ltb-false 0 (netOf l) e)) r)) zero-has
+    true-rep : repOf T (neg 0) ≡ 1
+    true-rep = laws .flip 0 ∙ ap neg (laws .bottom)
 
 -- ---- the outputs, of which there are some
 
+-- the tree ends in a line of its own
 num-outs : (R E : ℕ → ℕ) (n t kw z kz c : ℕ) (gs : List Gate) → 0 < length gs
     → (num n (outsTree R E t kw z kz c gs) ≡ n + size (outsTree R E t kw z kz c gs)) × (0 < size (outsTree R E t kw z kz c gs))
 unfolding outsTree
 num-outs R E n t kw z kz c [] h = absurd (omega arith)
 num-outs R E n t kw z kz c (g ∷ gs) h = (omega arith, omega arith)
 
+-- its clause is empty
 derives-outs : (T : List Entry) (N : ℕ) → Laws T N → (E : ℕ → ℕ) (K : List Clause)
     → ((l : ℕ) → netOf l < N → Ready (repOf T) E K l) → (gs : List Gate) (t kw z kz c o : ℕ) → length gs ≡ o → 0 < o
     → Block K kz (allClauses z gs) → Block K kw (allClauses t (ws (o - 1) t z (suc z))) → Has K c (positive (last (o - 1) t z) ∷ [])
@@ -168,7 +158,7 @@ module _ (T : List Entry) (a b : Netlist) (ab : Pair a b) (f : Facts T (a .input
   unfolding emit
   length-steps = rw (length-append, length-lay)
 
-  -- the clause of the outputs' tree is the last one
+  -- the clause of the outputs' tree is the last one, and empty
   ends : Has (after K steps) (length K + length steps) []
   unfolding emit
   ends =

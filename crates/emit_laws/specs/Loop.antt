@@ -7,14 +7,14 @@ use mathlib.Core.List.{List, [], _∷_, _++_}
 use native.Mathlib.Omega.{arith}
 use lib.ListN.{length, getD, length-append, List·getD-append}
 use lib.Seq.{getD-at}
-use lib.Dec.{ltb}
-use borrow.Author.Tests.{eqb-true, eqb-false, ne-eqb, ltb-true, ltb-false}
+use borrow.Author.Tests.{eqb-true, eqb-false, ne-eqb}
 use Rattle.model.specs.Limits.{linesPerGate}
-use Rattle.model.specs.Nets.{Op, Gate, netOf, odd, xorb, isBelow, readsBelow}
+use Rattle.model.specs.Nets.{Op, Gate, netOf, odd, xorb, readsBelow}
 use Rattle.model.specs.Nets.Op.{and, xor}
 use Rattle.model.specs.Clauses.{Clause, neg, opClauses, allClauses}
-use Rattle.laws.specs.Bools.{both}
+use Rattle.laws.specs.Bools.{below-or-at}
 use Rattle.laws.specs.Growing.{Extends}
+use Rattle.laws.specs.Literals.{literals-below}
 use Rattle.laws.specs.Pairs.{Ordered, isXor, Plain}
 use Rattle.fold_laws.specs.Signs.{signed, same-net}
 use Rattle.fold_laws.specs.Cases.{andCase, xorCase}
@@ -31,7 +31,7 @@ use Rattle.emit_laws.specs.CaseTrees.Settled.{linked, kept}
 use Rattle.emit_laws.specs.Gates.{Literals, literals, ClauseNumbers, Base, normal, normalNumbers, trees, Over, over-normal, linkOf, Held, gate-ok}
 
 -- over the net of n there are n and ¬n
-over-net : (n l : ℕ) (P : ℕ → Type 0) → netOf l ≡ netOf n → P n → P (neg n) → P l
+pub over-net : (n l : ℕ) (P : ℕ → Type 0) → netOf l ≡ netOf n → P n → P (neg n) → P l
 over-net n l P h p q = subst P (sym (same-net l n h)) (go (xorb (odd l) (odd n)))
   where
     go : (b : Bool) → P (signed b n)
@@ -48,12 +48,14 @@ slots true (a ∷ []) = a ∷ []
 slots true (a ∷ b ∷ []) = b ∷ a ∷ []
 slots true (a ∷ b ∷ c ∷ ns) = a ∷ b ∷ c ∷ ns
 
+-- clauses over a key are three or four, and stay
 slots-kept : {K : List Clause} (s o : Bool) (n a b : ℕ) (ns : List ℕ) → All₂ (Met K) ns (claims o n a b)
     → All₂ (Met K) (slots s ns) (claims o n a b)
 slots-kept false o n a b ns h = h
 slots-kept true false n a b ns (more p (more q (more r end))) = more p (more q (more r end))
 slots-kept true true n a b ns (more p (more q (more r (more s end)))) = more p (more q (more r (more s end)))
 
+-- each literal over the net of n finds its link
 slots-links : {K : List Clause} (n : ℕ) (ns : List ℕ) (C : ℕ → Claim) → All₂ (Met K) ns (C n ∷ C (neg n) ∷ [])
     → (l : ℕ) → netOf l ≡ netOf n → Met K (getD (slots (odd n) ns) (l % 2) 0) (C l)
 slots-links {K} n ns C (more {a = i} p (more {a = j} q end)) l h =
@@ -77,6 +79,7 @@ module _ (T : List Entry) (N first : ℕ) (laws : Laws T N) where
   abbrev R : ℕ → ℕ
   R = repOf T
 
+  -- what is kept goes on holding; of the new net f gives the links, and g the clauses over its key
   held-more : (K L : List Clause) (links : List (List ℕ)) (v : ℕ) (ns : List ℕ) → Held T first K links v → Extends K L
       → ((l : ℕ) → netOf l ≡ v → own R l ≡ false → (R l ≡ 1 → ⊥) → Has L (getD ns (l % 2) 0) (neg l ∷ unlessFalse (R l)))
       → ((l : ℕ) (o : Bool) → netOf l ≡ v → R l ≡ l → at T v .kind ≡ kindOf o → at T v .core ≡ l
@@ -85,8 +88,11 @@ module _ (T : List Entry) (N first : ℕ) (laws : Laws T N) where
   held-more K L links v ns held x f g =
       record {
         long = rw length-append (omega (arith, held .long));
-        link = λ l h o r. link l h o r (ltb (netOf l) v) refl;
-        kept = λ l o a h e d c. kept′ l o a h e d c (ltb (netOf l) v) refl;
+        link = λ l h o r.
+            below-or-at (netOf l) v h (λ q. rw (before l q) (has-ext x (held .link l q o r))) (λ q. rw (here l q) (f l q o r));
+        kept = λ l o a h r d c.
+            below-or-at (netOf l) v h (λ q. rw (before l q) (all-met-ext x (held .kept l o a q r d c)))
+            (λ q. rw (here l q, q) (g l o q r (rw q at d) (rw q at c)));
       }
     where
       before : (l : ℕ) → netOf l < v → getD (links ++ (ns ∷ [])) (netOf l) [] ≡ getD links (netOf l) []
@@ -95,21 +101,7 @@ module _ (T : List Entry) (N first : ℕ) (laws : Laws T N) where
       here : (l : ℕ) → netOf l ≡ v → getD (links ++ (ns ∷ [])) (netOf l) [] ≡ ns
       here l h = getD-at links ns [] [] (netOf l) (held .long ∙ sym h)
 
-      link : (l : ℕ) → netOf l < suc v → own R l ≡ false → (R l ≡ 1 → ⊥) → (b : Bool) → ltb (netOf l) v ≡ b
-          → Has L (linkOf (links ++ (ns ∷ [])) l) (neg l ∷ unlessFalse (R l))
-      link l h o r true e = let q : netOf l < v = ltb-true (netOf l) v e in rw (before l q) (has-ext x (held .link l q o r))
-      link l h o r false e = let q : netOf l ≡ v = omega (arith, ltb-false (netOf l) v e) in rw (here l q) (f l q o r)
-
-      kept′ : (l : ℕ) (o : Bool) → first ≤ netOf l → netOf l < suc v → R l ≡ l → at T (netOf l) .kind ≡ kindOf o
-          → at T (netOf l) .core ≡ l → (b : Bool) → ltb (netOf l) v ≡ b
-          → All₂ (Met L) (getD (links ++ (ns ∷ [])) (netOf l) []) (claims o l (at T (netOf l) .ka) (at T (netOf l) .kb))
-      kept′ l o a h r d c true e =
-          let q : netOf l < v = ltb-true (netOf l) v e in
-          rw (before l q) (all-met-ext x (held .kept l o a q r d c))
-      kept′ l o a h r d c false e =
-          let q : netOf l ≡ v = omega (arith, ltb-false (netOf l) v e) in
-          rw (here l q, q) (g l o q r (rw q at d) (rw q at c))
-
+  -- a link is there unless it is of a literal that stands for true
   claim-has : (L : List Clause) (c l : ℕ) → Met L c (linkClaim R l) → (R l ≡ 1 → ⊥) → Has L c (neg l ∷ unlessFalse (R l))
   unfolding linkClaim
   claim-has L c l h r = rw (ne-eqb (R l) 1 r) at h
@@ -119,6 +111,7 @@ module _ (T : List Entry) (N first : ℕ) (laws : Laws T N) where
     fine : Fine K (lays (length K) ts)
     held : Held T first (after K (lays (length K) ts)) (links ++ (slots (odd n) (nums (length K) ts) ∷ [])) (suc v)
 
+  -- linked: no literal over v stands for itself; kept: each does, and one of them is the core
   gate-ran : (K : List Clause) (links : List (List ℕ)) (v n a b : ℕ) (o : Bool) (ts : List Tree) → Held T first K links v → 0 < v
       → netOf n ≡ v → Settled T first K o n a b ts → GateRan K links v n ts
   gate-ran K links v n a b o ts held pos e (linked h g) =
@@ -219,6 +212,7 @@ placed-ext k v [] x p = tt
 placed-ext k v (g ∷ gs) x p =
     (base-ext (isXor (g .op)) (literalsOf v g) (from k) x (p .0), placed-ext (k + clauseCount (g .op)) (suc v) gs x (p .1))
 
+-- at most 16 lines
 trees-size : (R E : ℕ → ℕ) (o : Bool) (l : Literals) (k : ClauseNumbers) (D : List ℕ) → sizes (trees R E o l k D) ≤ linesPerGate
 unfolding trees
 trees-size R E false l k D = and-size R E (l .n) (l .x) (l .y) D (andCase (R (l .x)) (R (l .y))) (k .a) (k .b) (k .c)
@@ -226,8 +220,8 @@ trees-size R E true l k D = xor-size R E (l .n) (l .x) (l .y) D (xorCase (R (l .
 
 over-gate : (v : ℕ) (g : Gate) → readsBelow v g ≡ true → Over v (literalsOf v g)
 over-gate v g h =
-    let b = both (isBelow v (g .x)) (isBelow v (g .y)) h in
-    record { n = omega arith; x = ltb-true (netOf (g .x)) v (b .0); y = ltb-true (netOf (g .y)) v (b .1) }
+    let b = literals-below v g h in
+    record { n = omega arith; x = b .0; y = b .1 }
 
 module _ (T : List Entry) (N first : ℕ) (laws : Laws T N) where
   one-gate : (K : List Clause) (links : List (List ℕ)) (k v : ℕ) (g : Gate) → Held T first K links v
