@@ -2,10 +2,12 @@
 //! stands in `include/cec.h`; the declarations here repeat that header, a module for each part of
 //! it. Who uses the calls of one module does not need the library to have those of another.
 
+mod checker;
 mod evaluator;
 mod frames;
 mod lists;
 
+pub use checker::check;
 pub use evaluator::evaluate;
 pub use frames::{read_frame, write_frame};
 pub use lists::{read_list, read_lists};

@@ -20,25 +20,22 @@ impl Clause {
     /// "The result has at most 8 literals."
     pub const MOST_LITERALS: usize = 8;
 
-    /// The set of these literals. None, which is refusal 11, if it has more than eight.
-    pub fn of(literals: impl IntoIterator<Item = Literal>) -> Option<Self> {
+    /// The set of these literals. None if it has more than eight.
+    pub fn of(mut literals: impl AsMut<[Literal]>) -> Option<Self> {
+        let literals = literals.as_mut();
+        literals.sort_unstable();
         let mut clause = Self::default();
-        for literal in literals {
-            clause.insert(literal)?;
+        for &literal in &*literals {
+            if clause.literals().last() != Some(&literal) {
+                clause.push(literal)?;
+            }
         }
         Some(clause)
     }
 
-    /// Joins a literal to the set. None if it would be the ninth.
-    fn insert(&mut self, literal: Literal) -> Option<()> {
-        let Err(place) = self.literals().binary_search(&literal) else {
-            return Some(());
-        };
-        if self.length == Self::MOST_LITERALS {
-            return None;
-        }
-        self.literals.copy_within(place..self.length, place + 1);
-        self.literals[place] = literal;
+    /// Joins a literal above all others. None if it would be the ninth.
+    fn push(&mut self, highest: Literal) -> Option<()> {
+        *self.literals.get_mut(self.length)? = highest;
         self.length += 1;
         Some(())
     }
@@ -61,9 +58,21 @@ impl Clause {
     /// "The result is the first without v, joined with the second without ¬v." Each clause loses
     /// one sign only. None, which is refusal 11, if more than eight literals are left.
     pub fn resolvent(&self, second: &Self, pivot: Literal) -> Option<Self> {
-        let first = self.literals().iter().filter(|&&held| held != pivot);
-        let second = second.literals().iter().filter(|&&held| held != !pivot);
-        Self::of(first.chain(second).copied())
+        let mut first = self.without(pivot).peekable();
+        let mut second = second.without(!pivot).peekable();
+        let mut resolvent = Self::default();
+        while let Some(lowest) = lower(first.peek(), second.peek()) {
+            first.next_if_eq(&lowest);
+            second.next_if_eq(&lowest);
+            resolvent.push(lowest)?;
+        }
+        Some(resolvent)
+    }
+
+    /// The literals but for one, rising.
+    fn without(&self, literal: Literal) -> impl Iterator<Item = Literal> + '_ {
+        let literals = self.literals().iter().copied();
+        literals.filter(move |&held| held != literal)
     }
 
     /// As the store keeps it: "each literal plus one, rising, then zeros".
@@ -74,6 +83,11 @@ impl Clause {
         }
         numbers
     }
+}
+
+/// The lower of two literals, or the only one.
+fn lower(one: Option<&Literal>, other: Option<&Literal>) -> Option<Literal> {
+    one.into_iter().chain(other).min().copied()
 }
 
 /// The clauses for "n = AND of x, y" or "n = XOR", in the paper's order.

@@ -214,7 +214,7 @@ fn xor_is_one(operation: Operation) -> u8 {
 /// which a line has not.
 fn number(digits: &[u8]) -> Option<u64> {
     digits.iter().try_fold(0, |number, &byte| {
-        Some(16 * number + u64::from(digit(byte)?))
+        Some(number << 4 | u64::from(digit(byte)?))
     })
 }
 

@@ -11,7 +11,8 @@
 //! - `evaluator`: the values of a list's nets and outputs on a pattern, with 17;
 //! - `clause`: a set of literals, the resolvent of two, and the clauses of an AND or XOR;
 //! - `miter`: the variables and clauses that a proof starts from;
-//! - `checker`: the steps of a proof, with 8 to 15, and the checking program's report, with 1.
+//! - `checker`: the steps of a proof, with 8 to 15, and the checking program's report, with 1;
+//! - `sample`: the lists and the proof of the paper's bench samples.
 
 #![forbid(unsafe_code)]
 
@@ -24,6 +25,7 @@ mod literal;
 mod miter;
 mod netlist;
 mod refusal;
+pub mod sample;
 
 pub use checker::{check, report, Checked};
 pub use clause::{definition, Clause};

@@ -75,12 +75,19 @@ fn take_digits(text: &[u8]) -> Option<(&[u8], &[u8])> {
 
 /// The value of a digit: 0-9 and A-F, and no small letter.
 pub(crate) fn digit(byte: u8) -> Option<u8> {
-    match byte {
-        b'0'..=b'9' => Some(byte - b'0'),
-        b'A'..=b'F' => Some(byte - b'A' + 10),
-        _ => None,
-    }
+    DIGITS[usize::from(byte)]
 }
+
+/// The value of each byte that is a digit.
+const DIGITS: [Option<u8>; 256] = {
+    let mut digits = [None; 256];
+    let mut value = 0;
+    while value < 16 {
+        digits[b"0123456789ABCDEF"[value] as usize] = Some(value as u8);
+        value += 1;
+    }
+    digits
+};
 
 #[cfg(test)]
 mod tests {

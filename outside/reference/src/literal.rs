@@ -55,7 +55,11 @@ mod tests {
     fn a_literal_is_twice_its_net_and_its_sign() {
         let parts = |number: u16| {
             let literal = Literal(number);
-            (literal.net(), literal.is_complemented(), (!literal).number())
+            (
+                literal.net(),
+                literal.is_complemented(),
+                (!literal).number(),
+            )
         };
         assert_eq!(parts(0), (0, false, 1));
         assert_eq!(parts(1), (0, true, 0));

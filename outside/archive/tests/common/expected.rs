@@ -1,6 +1,6 @@
 //! The replies that the header promises, worked out by the reference.
 
-use cec_reference::{Frame, Netlist, Refusal};
+use cec_reference::{Checked, Frame, Netlist, Refusal};
 
 /// The numbers of cec_read_frame's reply.
 pub fn reading(text: &[u8]) -> [u64; 7] {
@@ -57,5 +57,13 @@ pub fn evaluating(text: &[u8], pattern: u64, work: &mut [u8]) -> [u64; 3] {
     match cec_reference::evaluate(text, pattern, work) {
         Ok(word) => [0, 0, word],
         Err(Refusal { number, line }) => [number.into(), line, 0],
+    }
+}
+
+/// The numbers of cec_check's reply; `store` is left as the call has to leave it.
+pub fn checking(text: &[u8], store: &mut [u16]) -> [u64; 4] {
+    match cec_reference::check(text, store) {
+        Ok(Checked { steps, clauses }) => [0, 0, steps as u64, clauses as u64],
+        Err(Refusal { number, line }) => [number.into(), line, 0, 0],
     }
 }

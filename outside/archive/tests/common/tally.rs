@@ -15,6 +15,14 @@ impl Tally {
         *self.outcomes.entry(outcome).or_default() += 1;
     }
 
+    /// Fails unless each of these outcomes was reached so often.
+    pub fn often(&self, test: &str, at_least: u64, outcomes: &[String]) {
+        for outcome in outcomes {
+            let times = self.outcomes.get(outcome).copied().unwrap_or_default();
+            assert!(times >= at_least, "{test}: {outcome} only {times} times");
+        }
+    }
+
     /// Prints the counts, and fails unless there were enough cases, each of these outcomes was
     /// reached, and no other was.
     pub fn finish(&self, test: &str, at_least: u64, outcomes: &[String]) {
