@@ -1,18 +1,18 @@
 -- The miter's variables, one by one: what the code builds for each has the clauses of the definition's gate.
 use Prim.Native.Nat.{ℕ, zero, suc, _+_, _-_, _*_, _/_, _≤_, _<_}
-use mathlib.Core.Path.{_≡_, refl, sym, ap, _∙_}
-use mathlib.Core.Bool.{true}
+use mathlib.Core.Path.{_≡_, refl, sym, ap, ap₂, _∙_}
 use mathlib.Core.List.{List, [], _∷_, _++_, map}
 use native.Mathlib.Omega.{arith}
 use lib.ListN.{length, getD, length-append, length-map, List·getD-append}
 use lib.Seq.{getD-append-add}
-use borrow.Author.Tests.{ltb-true, le-leb, lt-leb}
-use Rattle.model.specs.Limits.{highestVariable}
+use borrow.Author.Tests.{le-leb, lt-leb}
+use Rattle.model.specs.Limits.{mostGates, highestVariable}
 use Rattle.model.specs.Nets as nets
-use Rattle.model.specs.Nets.{Gate, Netlist, netOf, isBelow, readsBelow}
+use Rattle.model.specs.Nets.{Gate, Netlist, netOf}
 use Rattle.model.specs.Clauses.{positive, negative, neg, opClauses, gateClauses}
 use Rattle.model.specs.Miter.{shift, shiftGate, zs, ws, firstZ, rightGates, gatesOf, zGates, wGates, miterGates}
-use Rattle.laws.specs.Bools.{both}
+use Rattle.laws.specs.Literals.{literals-below}
+use Rattle.laws.specs.ListText.{ordered-at}
 use Rattle.laws.specs.Pairs as pairs
 use Rattle.laws.specs.MiterOrder.{length-z}
 use Rattle.frame.specs.declared.Op.{Op}
@@ -37,10 +37,6 @@ unfolding shift
 shift-gate i k l h = rw (lt-leb (l / 2) i h)
 
 -- ---- gates of the lists
-
--- the literals of a gate that reads below t
-pub literals-below : (t : ℕ) (m : Gate) → readsBelow t m ≡ true → (netOf (m .x) < t) × (netOf (m .y) < t)
-literals-below t m h = let r = both (isBelow t (m .x)) (isBelow t (m .y)) h in (ltb-true (netOf (m .x)) t (r .0), ltb-true (netOf (m .y)) t (r .1))
 
 meant : (op : Op) (x y : ℕ) → gateMeant (record { op = op; x = x; y = y }) ≡ record { op = opOf op; x = x; y = y }
 meant And x y = refl
@@ -68,6 +64,11 @@ module _ (g : again.Gate) (m : Gate) (is : gateMeant g ≡ m) where
         low-x = omega arith;
         low-y = omega arith;
       }
+
+  -- moved as a right gate's literals are
+  pub moved : (x y : ℕ) (f : ℕ → ℕ) → x ≡ f (g .x) → y ≡ f (g .y)
+      → gateMeant (record { op = g .op; x = x; y = y }) ≡ record { op = m .op; x = f (m .x); y = f (m .y) }
+  moved x y f ex ey = meant (g .op) x y ∙ rw (op-is, x-is, y-is, ex, ey)
 
 -- ---- z and w
 
@@ -139,6 +140,13 @@ before-is f n zero = refl
 before-is f n (suc j) = refl
 
 module _ (a b : Netlist) (ab : pairs.Pair a b) where
+  pub left-of : (i : ℕ) (d : Gate) → i < length (a .gates) → getD (gatesOf a b) i d ≡ getD (a .gates) i d
+  left-of i d h = List·getD-append (a .gates) (rightGates a b) d i h
+
+  pub right-of : (j : ℕ) (d : Gate) → j < length (b .gates)
+      → getD (gatesOf a b) (length (a .gates) + j) d ≡ shiftGate (a .inputs) (length (a .gates)) (getD (b .gates) j d)
+  right-of j d h = getD-append-add (a .gates) (rightGates a b) j d ∙ map-at (shiftGate (a .inputs) (length (a .gates))) (b .gates) j d d h
+
   pub left-at : (i : ℕ) (d : Gate) → i < length (a .gates) → getD (miterGates a b) i d ≡ getD (a .gates) i d
   unfolding miterGates
   left-at i d h =
@@ -146,7 +154,7 @@ module _ (a b : Netlist) (ab : pairs.Pair a b) where
       let m = length-append (gatesOf a b) (zGates a b) in
       List·getD-append (gatesOf a b ++ zGates a b) (wGates a b) d i (omega arith)
       ∙ List·getD-append (gatesOf a b) (zGates a b) d i (omega arith)
-      ∙ List·getD-append (a .gates) (rightGates a b) d i h
+      ∙ left-of i d h
 
   pub right-at : (j : ℕ) (d : Gate) → j < length (b .gates)
       → getD (miterGates a b) (length (a .gates) + j) d ≡ shiftGate (a .inputs) (length (a .gates)) (getD (b .gates) j d)
@@ -157,8 +165,11 @@ module _ (a b : Netlist) (ab : pairs.Pair a b) where
       let m = length-append (gatesOf a b) (zGates a b) in
       List·getD-append (gatesOf a b ++ zGates a b) (wGates a b) d (length (a .gates) + j) (omega arith)
       ∙ List·getD-append (gatesOf a b) (zGates a b) d (length (a .gates) + j) (omega arith)
-      ∙ getD-append-add (a .gates) (rightGates a b) j d
-      ∙ map-at (shiftGate (a .inputs) (length (a .gates))) (b .gates) j d d h
+      ∙ right-of j d h
+
+  -- the XOR of two outputs
+  pub z-of : (j : ℕ) (d : Gate) → j < length (a .outs) → getD (zGates a b) j d ≡ zGate (a .inputs) (length (a .gates)) (a .outs) (b .outs) j
+  z-of j d h = zs-at (a .inputs) (length (a .gates)) (a .outs) (b .outs) j d h (omega (arith, ab .outs))
 
   pub z-at : (j : ℕ) (d : Gate) → j < length (a .outs)
       → getD (miterGates a b) (length (a .gates) + length (b .gates) + j) d ≡ zGate (a .inputs) (length (a .gates)) (a .outs) (b .outs) j
@@ -172,7 +183,7 @@ module _ (a b : Netlist) (ab : pairs.Pair a b) where
       rw e
       (List·getD-append (gatesOf a b ++ zGates a b) (wGates a b) d (length (gatesOf a b) + j) (omega arith)
       ∙ getD-append-add (gatesOf a b) (zGates a b) j d
-      ∙ zs-at (a .inputs) (length (a .gates)) (a .outs) (b .outs) j d h (omega (arith, ab .outs)))
+      ∙ z-of j d h)
 
   pub w-at : (j : ℕ) (d : Gate) → j + 1 < length (a .outs)
       → getD (miterGates a b) (length (a .gates) + length (b .gates) + length (a .outs) + j) d
@@ -191,6 +202,37 @@ module _ (a b : Netlist) (ab : pairs.Pair a b) where
       ∙ or-gate (before (f + length (a .outs)) f j) (wVariable f (length (a .outs)) j) (suc f + j) (f + 1 + j) (before-is f (length (a .outs)) j) (omega arith))
 
 -- ---- by one number for all
+
+-- ---- a right gate's literals, for `shift`
+
+module _ {text : List ℕ} {p : Pair} (w : Lists text p) where
+  pub few-left : p .left ≤ mostGates
+  few-left = omega (arith, w .alike .left .gates, w .left-gates)
+
+  pub right-literals : (k : ℕ) → k < p .right → (g : again.Gate) → gateMeant g ≡ getD (w .right .gates) k noGate → (g .x < 4096) × (g .y < 4096)
+  right-literals k h g is =
+      let m : Gate = getD (w .right .gates) k noGate in
+      let o = ordered-at (1 + w .right .inputs) (w .right .gates) k noGate (w .alike .right .ordered) (omega (arith, w .right-gates)) in
+      let r = literals-below (1 + w .right .inputs + k) m o in (
+        omega (arith, x-is g m is, r .0, w .alike .right .inputs, w .alike .right .gates, w .right-gates),
+        omega (arith, y-is g m is, r .1, w .alike .right .inputs, w .alike .right .gates, w .right-gates),
+      )
+
+  -- gate k of both lists, behind those of the left
+  pub right-gate-of : (k : ℕ) → p .left ≤ k → k < p .left + p .right
+      → shiftGate (p .inputs) (p .left) (getD (w .right .gates) (k - p .left) noGate) ≡ getD (gatesOf (w .left) (w .right)) k noGate
+  right-gate-of k h i =
+      let j : ℕ = k - p .left in
+      let g : Gate = getD (w .right .gates) j noGate in
+      let m : length (w .left .gates) + j ≡ k = omega (arith, w .left-gates) in
+      ap₂ (λ (i n : ℕ). shiftGate i n g) (sym (w .inputs)) (sym (w .left-gates))
+      ∙ sym (right-of (w .left) (w .right) (w .alike) j noGate (omega (arith, w .left-gates, w .right-gates)))
+      ∙ ap (λ (x : ℕ). getD (gatesOf (w .left) (w .right)) x noGate) m
+
+  pub z-gate-of : (k : ℕ) → k < p .outputs → zGate (p .inputs) (p .left) (w .left .outs) (w .right .outs) k ≡ getD (zGates (w .left) (w .right)) k noGate
+  z-gate-of k h =
+      ap₂ (λ (i n : ℕ). zGate i n (w .left .outs) (w .right .outs) k) (sym (w .inputs)) (sym (w .left-gates))
+      ∙ sym (z-of (w .left) (w .right) (w .alike) k noGate (omega (arith, w .outputs)))
 
 same-definition : {r : Definition} {t t′ : ℕ} {g g′ : Gate} → t ≡ t′ → g ≡ g′ → Defines r t g → Defines r t′ g′
 same-definition {r} {t} {t′} {g} {g′} e f d = rw (sym e, sym f) d

@@ -22,7 +22,7 @@ pub struct Definition {
 }
 
 // A right list's literal as the miter's: its gates lie behind the left list's.
-fn shift(inputs: usize, left: usize, l: u16) -> u16
+pub fn shift(inputs: usize, left: usize, l: u16) -> u16
     requires { ⌜ (l < 4096) × (left ≤ mostGates) ⌝ }
     ensures { λ r. ⌜ r ≡ model.shift inputs left l ⌝ }
 {

@@ -6,7 +6,8 @@ use lib.ListN.{getD}
 use Rattle.model.specs.Nets.{Gate}
 use Rattle.laws.specs.ListText.{ordered-at}
 use Rattle.netlist.specs.Again.{gateMeant, noGate}
-use Rattle.checker.proofs.MiterLaws.{literals-below, x-is, y-is, gate-defines}
+use Rattle.laws.specs.Literals.{literals-below}
+use Rattle.checker.proofs.MiterLaws.{x-is, y-is, gate-defines}
 use borrow.Author.Needs.{needs}
 use Rattle.checker.proofs.miter.left_gate.Statement.{statement}
 use Rattle.checker.proofs.miter.left_gate.Tie as tie

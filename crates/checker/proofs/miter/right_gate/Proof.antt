@@ -8,7 +8,8 @@ use Rattle.model.specs.Miter.{shift}
 use Rattle.laws.specs.ListText.{ordered-at}
 use Rattle.laws.specs.MiterOrder.{shift-below}
 use Rattle.netlist.specs.Again.{gateMeant, noGate}
-use Rattle.checker.proofs.MiterLaws.{literals-below, x-is, y-is, gate-defines}
+use Rattle.laws.specs.Literals.{literals-below}
+use Rattle.checker.proofs.MiterLaws.{x-is, y-is, gate-defines, few-left, right-literals}
 use borrow.Author.Needs.{needs}
 use Rattle.checker.proofs.miter.right_gate.Statement.{statement}
 use Rattle.checker.proofs.miter.right_gate.Tie as tie
@@ -41,20 +42,16 @@ shift-requires c κs =
     let a = c .before .before .before .before .before .args in
     let w = c .before .before .before .before .before .pre .0 in
     let g = c .before .before .before .gate-at in
-    let m : Gate = getD (w .right .gates) (a .k) noGate in
-    let is : gateMeant (g .result) ≡ m = g .ensures (w .right) (w .right-stands) (omega (arith, w .right-gates)) in
-    let r = literals-below (1 + w .right .inputs + a .k) m (ordered-at (1 + w .right .inputs) (w .right .gates) (a .k) noGate (w .alike .right .ordered) (omega (arith, w .right-gates))) in
-    (omega (arith, x-is (g .result) m is, r .0, w .alike .right .inputs, w .alike .right .gates, w .right-gates), omega (arith, w .alike .left .gates, w .left-gates))
+    let is = g .ensures (w .right) (w .right-stands) (omega (arith, w .right-gates)) in
+    (right-literals w (a .k) (omega arith) (g .result) is .0, few-left w)
 
 shift-requires-2 : tie.Need-shift-requires-2
 shift-requires-2 c κs =
     let a = c .before .before .before .before .before .before .args in
     let w = c .before .before .before .before .before .before .pre .0 in
     let g = c .before .before .before .before .gate-at in
-    let m : Gate = getD (w .right .gates) (a .k) noGate in
-    let is : gateMeant (g .result) ≡ m = g .ensures (w .right) (w .right-stands) (omega (arith, w .right-gates)) in
-    let r = literals-below (1 + w .right .inputs + a .k) m (ordered-at (1 + w .right .inputs) (w .right .gates) (a .k) noGate (w .alike .right .ordered) (omega (arith, w .right-gates))) in
-    (omega (arith, y-is (g .result) m is, r .1, w .alike .right .inputs, w .alike .right .gates, w .right-gates), omega (arith, w .alike .left .gates, w .left-gates))
+    let is = g .ensures (w .right) (w .right-stands) (omega (arith, w .right-gates)) in
+    (right-literals w (a .k) (omega arith) (g .result) is .1, few-left w)
 
 returns : tie.Need-returns
 returns c w =
