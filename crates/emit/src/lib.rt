@@ -4,5 +4,6 @@ pub mod ands; // an AND gate
 pub mod gates; // a gate in normal form
 pub mod kept; // what is kept of a gate
 pub mod lines; // one line
+pub mod outputs; // the outputs, down to the empty clause
 pub mod subst; // representatives put for literals
 pub mod xors; // an XOR gate
