@@ -38,7 +38,7 @@ shift-gate i k l h = rw (lt-leb (l / 2) i h)
 
 -- ---- gates of the lists
 
-meant : (op : Op) (x y : ℕ) → gateMeant (record { op = op; x = x; y = y }) ≡ record { op = opOf op; x = x; y = y }
+pub meant : (op : Op) (x y : ℕ) → gateMeant (record { op = op; x = x; y = y }) ≡ record { op = opOf op; x = x; y = y }
 meant And x y = refl
 meant Xor x y = refl
 
@@ -208,6 +208,9 @@ module _ (a b : Netlist) (ab : pairs.Pair a b) where
 module _ {text : List ℕ} {p : Pair} (w : Lists text p) where
   pub few-left : p .left ≤ mostGates
   few-left = omega (arith, w .alike .left .gates, w .left-gates)
+
+  pub few-right : p .right ≤ mostGates
+  few-right = omega (arith, w .alike .right .gates, w .right-gates)
 
   pub right-literals : (k : ℕ) → k < p .right → (g : again.Gate) → gateMeant g ≡ getD (w .right .gates) k noGate → (g .x < 4096) × (g .y < 4096)
   right-literals k h g is =

@@ -1,0 +1,80 @@
+-- What two representatives make, test by test.
+use Prim.Native.Nat.{ℕ, _-_, _%_, _≤_, _<_}
+use mathlib.Core.Path.{_≡_, refl}
+use mathlib.Core.Bool.{Bool, true, false, not, or-true}
+use native.Mathlib.Omega.{arith}
+use lib.Dec.{eqb}
+use borrow.Author.Tests.{eq-eqb, ne-eqb, le-leb, lt-leb}
+use Rattle.model.specs.Nets.{odd, xorb, bit}
+use Rattle.model.specs.Clauses.{neg}
+use Rattle.fold_laws.specs.Signs.{bit-odd}
+use Rattle.fold_laws.specs.Cases.{andCase, xorCase, made}
+use Rattle.fold_laws.specs.Cases.Made.{is, key}
+use Rattle.fold_laws.specs.Table.{ordered, part, signOf}
+
+-- ---- an AND
+
+module _ (a b : ℕ) where
+  pub and-nil : a ≡ 0 → is 0 ≡ made false a b
+  unfolding andCase
+  and-nil e = rw (eq-eqb a 0 e)
+
+  module _ (z : a ≡ 0 → ⊥) where
+    pub and-true : a ≡ 1 → is b ≡ made false a b
+    unfolding andCase
+    and-true e = rw (ne-eqb a 0 z, eq-eqb a 1 e)
+
+    pub and-same : a ≡ b → is b ≡ made false a b
+    unfolding andCase
+    and-same e = rw (ne-eqb a 0 z, eq-eqb a b e, or-true)
+
+    pub and-opposite : (a ≡ 1 → ⊥) → (a ≡ b → ⊥) → a ≡ neg b → is 0 ≡ made false a b
+    unfolding andCase
+    and-opposite o d e = rw (ne-eqb a 0 z, ne-eqb a 1 o, ne-eqb a b d, eq-eqb a (neg b) e)
+
+    pub and-key : (a ≡ 1 → ⊥) → (a ≡ b → ⊥) → (a ≡ neg b → ⊥) → key a b ≡ made false a b
+    unfolding andCase
+    and-key o d e = rw (ne-eqb a 0 z, ne-eqb a 1 o, ne-eqb a b d, ne-eqb a (neg b) e)
+
+  -- ---- an XOR
+
+  pub xor-pass : a ≡ 0 → is b ≡ made true a b
+  unfolding xorCase
+  xor-pass e = rw (eq-eqb a 0 e)
+
+  module _ (z : a ≡ 0 → ⊥) where
+    pub xor-same : a ≡ b → is 0 ≡ made true a b
+    unfolding xorCase
+    xor-same e = rw (ne-eqb a 0 z, eq-eqb a b e)
+
+    pub xor-key : (a ≡ b → ⊥) → key a b ≡ made true a b
+    unfolding xorCase
+    xor-key d = rw (ne-eqb a 0 z, ne-eqb a b d)
+
+-- ---- in order
+
+pub in-order : (k : Bool) (p q : ℕ) → p ≤ q → made k p q ≡ ordered k p q
+unfolding ordered
+in-order k p q h = rw (le-leb p q h)
+
+pub out-of-order : (k : Bool) (p q : ℕ) → q < p → made k q p ≡ ordered k p q
+unfolding ordered
+out-of-order k p q h = rw (lt-leb p q h)
+
+-- ---- an XOR's signs
+
+pub unsigned : (l : ℕ) → l - l % 2 ≡ part true l
+unsigned l = go (odd l) (bit-odd l) refl
+  where
+    go : (b : Bool) → l % 2 ≡ bit b → odd l ≡ b → l - l % 2 ≡ part true l
+    go true e d = rw d (omega arith)
+    go false e d = rw d (omega arith)
+
+pub combined : (p q : ℕ) → not (eqb (p % 2) (q % 2)) ≡ signOf true p q
+combined p q = go (odd p) (odd q) (bit-odd p) (bit-odd q)
+  where
+    go : (a b : Bool) → p % 2 ≡ bit a → q % 2 ≡ bit b → not (eqb (p % 2) (q % 2)) ≡ xorb (eqb (p % 2) 1) (eqb (q % 2) 1)
+    go true true e d = rw (e, d)
+    go true false e d = rw (e, d)
+    go false true e d = rw (e, d)
+    go false false e d = rw (e, d)

@@ -1,0 +1,72 @@
+-- Each arm knows the gate's kind, and the representatives are those of its operands (`EntryLaws`).
+use mathlib.Core.Path.{refl, ap, _∙_}
+use mathlib.Core.Bool.{true, false}
+use Rattle.fold_laws.specs.Table as model
+use Rattle.fold.proofs.MadeLaws.{combined}
+use Rattle.fold.proofs.EntryLaws.{is-entry}
+use borrow.Author.Needs.{needs}
+use Rattle.fold.proofs.entry.entry.Statement.{statement}
+use Rattle.fold.proofs.entry.entry.Tie as tie
+use Rattle.fold.proofs.entry.entry.Reads as reads
+use Rattle.fold.proofs.entry.entry.Lts as lts
+use Rattle.fold.proofs.entry.entered.Reads as entered-reads
+use Rattle.fold.proofs.made.and_of.Reads as and-of-reads
+use Rattle.fold.proofs.made.xor_of.Reads as xor-of-reads
+use Rattle.table.proofs.rows.representative.Reads as representative-reads
+
+representative-requires : tie.Need-representative-requires
+representative-requires c κs = search needs
+
+representative-requires-2 : tie.Need-representative-requires-2
+representative-requires-2 c κs = search needs
+
+enum-told : tie.Need-enum-told
+enum-told c = search needs
+
+and-of-requires : tie.Need-and-of-requires
+and-of-requires c κs = search needs
+
+entered-requires : tie.Need-entered-requires
+entered-requires c κs = search needs
+
+enum-told-2 : tie.Need-enum-told-2
+enum-told-2 c = search needs
+
+xor-of-requires : tie.Need-xor-of-requires
+xor-of-requires c κs = search needs
+
+entered-requires-2 : tie.Need-entered-requires-2
+entered-requires-2 c κs = search needs
+
+returns : tie.Need-returns
+returns c t h n low =
+    let a = c .before .before .before .before .before .before .before .args in
+    let x = c .before .before .before .before .before .representative in
+    let y = c .before .before .before .before .representative2 in
+    c .entered .ensures t false h n refl
+    ∙ ap (model.enter t false false) (c .before .and-of .ensures)
+    ∙ is-entry t (a .gate) (a .v) _ _ n low (x .ensures t h) (y .ensures t h) _ (c .before .before .enum-told .given .1)
+
+returns-2 : tie.Need-returns-2
+returns-2 c t h n low =
+    let a = c .before .before .before .before .before .before .before .args in
+    let x = c .before .before .before .before .before .representative in
+    let y = c .before .before .before .before .representative2 in
+    c .entered2 .ensures t true h n refl
+    ∙ ap (model.enter t true _) (c .before .xor-of .ensures)
+    ∙ rw (combined (x .result) (y .result)) (is-entry t (a .gate) (a .v) _ _ n low (x .ensures t h) (y .ensures t h) _ (c .before .before .enum-told2 .given .1))
+
+pub entry-spec : {M : Type 1} → statement M
+entry-spec =
+    tie.close
+    (tie.spec
+    representative-requires
+    representative-requires-2
+    enum-told
+    and-of-requires
+    entered-requires
+    enum-told-2
+    xor-of-requires
+    entered-requires-2
+    returns
+    returns-2)

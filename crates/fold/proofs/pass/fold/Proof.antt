@@ -1,0 +1,115 @@
+-- The invariant: the entries of the nets before gate k stand (`PassLaws`).
+use Prim.Native.Nat.{ℕ, _+_, _-_, _≤_}
+use mathlib.Core.Path.{_≡_, refl, sym, ap, _∙_, subst}
+use native.Mathlib.Omega.{arith}
+use denote.Ref.{now}
+use lib.ListN.{length}
+use Rattle.model.specs.Miter.{gatesOf}
+use Rattle.table.specs.Rows.{entryOf, Holds}
+use Rattle.checker.specs.Miters.{Lists}
+use Rattle.laws.specs.MiterOrder.{length-gates}
+use Rattle.fold_laws.specs.Table as model
+use Rattle.netlist.specs.Again.{gateMeant}
+use Rattle.checker.proofs.MiterLaws.{few-left, few-right}
+use Rattle.fold.proofs.PassLaws.{after, after-none, after-all, gate-entered}
+use borrow.Author.Needs.{needs}
+use Rattle.fold.proofs.pass.fold.Statement.{statement}
+use Rattle.fold.proofs.pass.fold.Tie as tie
+use Rattle.fold.proofs.pass.fold.Reads as reads
+use Rattle.fold.proofs.pass.fold.Lts as lts
+use Rattle.checker.proofs.both.gate_of.Reads as gate-of-reads
+use Rattle.fold.proofs.entry.entry.Reads as entry-reads
+use Rattle.fold.proofs.pass.set_bases.Reads as set-bases-reads
+use Rattle.table.proofs.rows.enter.Reads as enter-reads
+
+abbrev Inv-loop : tie.InvT-loop
+Inv-loop text pair work₀ first gates k₀ work k =
+    (k ≤ gates) × (length work ≡ length work₀) × ((w : Lists text pair) → Holds work (after (w .left .inputs) (gatesOf (w .left) (w .right)) k))
+
+abbrev μ-loop : tie.MeasureT-loop
+μ-loop text pair work₀ first gates k₀ work k = gates - k
+
+add-first : tie.Need-add-first Inv-loop μ-loop
+add-first c = search needs
+
+add-gates : tie.Need-add-gates Inv-loop μ-loop
+add-gates c = search needs
+
+set-bases-requires : tie.Need-set-bases-requires Inv-loop μ-loop
+set-bases-requires c κs = search needs
+
+loop-holds : tie.Need-loop-holds Inv-loop μ-loop
+loop-holds c = (
+  omega arith,
+  refl,
+  λ w.
+      subst (Holds (c .before .before .set-bases .last .0)) (ap (λ (i : ℕ). model.bases 0 (1 + i)) (sym (w .inputs)) ∙ sym (after-none (w .left .inputs) (gatesOf (w .left) (w .right))))
+      (c .before .before .set-bases .ensures),
+)
+
+gate-of-requires : tie.Need-gate-of-requires Inv-loop μ-loop
+gate-of-requires c κs = search needs
+
+add-entry : tie.Need-add-entry Inv-loop μ-loop
+add-entry c = search needs
+
+entry-requires : tie.Need-entry-requires Inv-loop μ-loop
+entry-requires c κs = search needs
+
+add-enter : tie.Need-add-enter Inv-loop μ-loop
+add-enter c = search needs
+
+enter-requires : tie.Need-enter-requires Inv-loop μ-loop
+enter-requires c κs = search needs
+
+add-k : tie.Need-add-k Inv-loop μ-loop
+add-k c = let w = c .before .before .before .before .before .before .before .before .before .before .before .before .before .before .before .before .before .pre .0 in omega (arith, few-left w, few-right w)
+
+loop-less : tie.Need-loop-less Inv-loop μ-loop
+loop-less c = search needs
+
+loop-again : tie.Need-loop-again Inv-loop μ-loop
+loop-again c =
+    let l = c .before .before .before .before .before .before .before .before .loop in
+    let g = c .before .before .before .before .before .before .gate-of in
+    let m = c .before .before .before .before .entry in
+    let e = c .before .before .enter in (
+      omega arith,
+      (let s : length (e .last .0) ≡ length (l .work) = search needs in s) ∙ l .inv .1,
+      λ w.
+          gate-entered (w .left) (w .right) (w .alike) (l .k) _ (gateMeant (g .result)) (entryOf (m .result)) (l .work) (e .last .0)
+          (omega (arith, length-gates (w .left) (w .right) (w .alike), w .left-gates, w .right-gates)) (omega (arith, w .inputs)) (g .ensures w) (l .inv .2 w) (m .ensures) (e .ensures),
+    )
+
+same-length : tie.Need-same-length Inv-loop μ-loop
+same-length c =
+    let b = c .before .before .before .before .set-bases in
+    c .before .loop .inv .1 ∙ (let s : length (b .last .0) ≡ length (now (c .before .before .before .before .before .before .before .before .before .before .args .work)) = search needs in s)
+
+returns : tie.Need-returns Inv-loop μ-loop
+returns c w =
+    let l = c .before .loop in
+    subst (Holds (l .work))
+    (after-all (w .left .inputs) (gatesOf (w .left) (w .right)) (l .k) (omega (arith, length-gates (w .left) (w .right) (w .alike), w .left-gates, w .right-gates)))
+    (l .inv .2 w)
+
+pub fold-spec : {M : Type 1} → statement M
+fold-spec =
+    tie.close
+    (tie.spec
+    Inv-loop
+    μ-loop
+    add-first
+    add-gates
+    set-bases-requires
+    loop-holds
+    gate-of-requires
+    add-entry
+    entry-requires
+    add-enter
+    enter-requires
+    add-k
+    loop-less
+    loop-again
+    same-length
+    returns)

@@ -1,0 +1,93 @@
+// A gate's entry, from the table of the nets before it.
+use crate::made::Made;
+use crate::made::and_of;
+use crate::made::xor_of;
+use clause::Literal;
+use frame::Op;
+use netlist::again::Gate;
+use table::rows::AND;
+use table::rows::Entry;
+use table::rows::XOR;
+use table::rows::core_of;
+use table::rows::find;
+use table::rows::representative;
+ghost use mathlib.Core.Path.{_≡_};
+ghost use mathlib.Core.Bool.{Bool, true};
+ghost use mathlib.Core.List.{List};
+ghost use Prim.Native.Nat.{_*_, _<_, _≤_};
+ghost use lib.ListN.{length};
+ghost use Rattle.model.specs.Limits.{highestVariable};
+ghost use Rattle.model.specs.Nets.{readsBelow};
+ghost use Rattle.netlist.specs.Again.{gateMeant};
+ghost use Rattle.fold_laws.specs.Cases.Made.{key};
+ghost use Rattle.fold_laws.specs.Signs as signs;
+ghost use Rattle.fold_laws.specs.Table as model;
+ghost use Rattle.table.specs.Rows.{rowWidth, entryOf, Holds};
+ghost use Rattle.fold.specs.Entries.{madeOf};
+
+// The literal, complemented where the sign is set.
+fn signed(sign: bool, l: u16) -> u16
+    ensures { λ r. ⌜ r ≡ signs.signed sign l ⌝ }
+{
+    if sign {
+        return Literal { code: l }.complement().code;
+    }
+    l
+}
+
+// The entry of net v of this key, where its literal of this sign is the AND or XOR of the key: of the first net that has it, or its own.
+fn found(work: &[u16], v: usize, kind: u16, sign: bool, a: u16, b: u16) -> Entry
+    requires { ⌜ (rowWidth * v ≤ length (now work)) × (v ≤ highestVariable) ⌝ }
+    ensures { λ r. ⌜ ((t : List model.Entry) (k : Bool) → Holds (now (work .entry)) t → length t ≡ v → kind ≡ model.kindOf k
+        → entryOf r ≡ model.enter t k sign (key a b)) ⌝ }
+{
+    let u = find(work, v, kind, a, b);
+    if u < v {
+        return Entry {
+            rep: signed(sign, core_of(work, u)),
+            kind,
+            ka: 0,
+            kb: 0,
+            core: 0,
+        };
+    }
+    let own = 2 * (v as u16);
+    Entry {
+        rep: own,
+        kind,
+        ka: a,
+        kb: b,
+        core: signed(sign, own),
+    }
+}
+
+// The entry of net v, where its literal of this sign is what was made.
+fn entered(work: &[u16], v: usize, kind: u16, sign: bool, made: Made) -> Entry
+    requires { ⌜ (rowWidth * v ≤ length (now work)) × (v ≤ highestVariable) ⌝ }
+    ensures { λ r. ⌜ ((t : List model.Entry) (k : Bool) → Holds (now (work .entry)) t → length t ≡ v → kind ≡ model.kindOf k → entryOf r ≡ model.enter t k sign (madeOf made)) ⌝ }
+{
+    match made {
+        Made::Is(r) => Entry {
+            rep: signed(sign, r),
+            kind,
+            ka: 0,
+            kb: 0,
+            core: 0,
+        },
+        Made::Key(a, b) => found(work, v, kind, sign, a, b),
+    }
+}
+
+// The entry of net v as this gate.
+pub fn entry(work: &[u16], v: usize, gate: Gate) -> Entry
+    requires { ⌜ (rowWidth * v ≤ length (now work)) × (v ≤ highestVariable) ⌝ }
+    ensures { λ r. ⌜ ((t : List model.Entry) → Holds (now (work .entry)) t → length t ≡ v → readsBelow v (gateMeant gate) ≡ true → entryOf r ≡ model.entry t (gateMeant gate)) ⌝ }
+{
+    let p = representative(work, gate.x);
+    let q = representative(work, gate.y);
+    let op = gate.op;
+    match op {
+        Op::And => entered(work, v, AND, false, and_of(p, q)),
+        Op::Xor => entered(work, v, XOR, p % 2 != q % 2, xor_of(p, q)),
+    }
+}

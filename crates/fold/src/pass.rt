@@ -1,0 +1,74 @@
+// The whole table of both lists: net 0 and the inputs, then the gates; and the first output whose representatives differ.
+use crate::entry::entry;
+use checker::both::gate_of;
+use checker::both::outputs_of;
+use netlist::Pair;
+use table::rows::Entry;
+use table::rows::enter;
+use table::rows::representative;
+ghost use mathlib.Core.Path.{_≡_};
+ghost use Prim.Native.Nat.{_+_, _*_, _≤_};
+ghost use lib.ListN.{length};
+ghost use Rattle.model.specs.Limits.{mostInputs};
+ghost use Rattle.fold_laws.specs.Table as model;
+ghost use Rattle.fold_laws.specs.Engine.{bothTable, byReps};
+ghost use Rattle.table.specs.Rows.{rowWidth, Holds};
+ghost use Rattle.checker.specs.Miters.{Lists};
+
+// Net 0 and the inputs represent themselves.
+fn set_bases(work: &mut [u16], inputs: usize)
+    requires { ⌜ (rowWidth * (1 + inputs) ≤ length (now work)) × (inputs ≤ mostInputs) ⌝ }
+    ensures { λ _. ⌜ Holds (now (work .exit)) (model.bases 0 (1 + inputs)) ⌝ }
+{
+    let mut k: usize = 0;
+    while k < 1 + inputs {
+        enter(
+            work,
+            k,
+            Entry {
+                rep: 2 * (k as u16),
+                kind: 0,
+                ka: 0,
+                kb: 0,
+                core: 0,
+            },
+        );
+        k += 1;
+    }
+}
+
+// The table of both lists.
+pub fn fold(text: &[u8], pair: Pair, work: &mut [u16])
+    requires { ⌜ Lists (now text) pair × (rowWidth * (1 + pair .inputs + pair .left + pair .right) ≤ length (now work)) ⌝ }
+    ensures { λ _. ⌜ ((w : Lists (now (text .entry)) pair) → Holds (now (work .exit)) (bothTable (w .left) (w .right))) ⌝ }
+{
+    let first = 1 + pair.inputs;
+    let gates = pair.left + pair.right;
+    set_bases(work, pair.inputs);
+    let mut k: usize = 0;
+    while k < gates {
+        let gate = gate_of(text, pair, k);
+        let made = entry(work, first + k, gate);
+        enter(work, first + k, made);
+        k += 1;
+    }
+}
+
+// The first output whose representatives differ, from 1, or 0.
+pub fn first_apart(text: &[u8], pair: Pair, work: &[u16]) -> usize
+    requires { ⌜ Lists (now text) pair ⌝ }
+    ensures { λ r. ⌜ ((w : Lists (now (text .entry)) pair) → Holds (now (work .entry)) (bothTable (w .left) (w .right)) → r ≡ byReps (w .left) (w .right)) ⌝ }
+{
+    let outputs = pair.outputs;
+    let mut k: usize = 0;
+    while k < outputs {
+        let gate = outputs_of(text, pair, k);
+        let x = representative(work, gate.x);
+        let y = representative(work, gate.y);
+        k += 1;
+        if x != y {
+            return k;
+        }
+    }
+    0
+}
