@@ -1,2 +1,4 @@
 -- The laws; rt itself finds the proof of each function by its place.
 pub mod EmitLaws
+pub mod LineLaws
+pub mod SubstLaws

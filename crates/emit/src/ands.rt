@@ -46,7 +46,16 @@ fn and_pass(work: &[u16], start: usize, proof: &mut [u8], at: Derived, d: Define
     let not_x = Literal { code: d.x }.complement();
     let not_y = Literal { code: d.y }.complement();
     let down = link2(work, start, proof, at, d.n, d.b, d.y, d.y);
-    let up = link2(work, start, proof, down, not_n.code, d.c, not_x.code, not_y.code);
+    let up = link2(
+        work,
+        start,
+        proof,
+        down,
+        not_n.code,
+        d.c,
+        not_x.code,
+        not_y.code,
+    );
     two(down, up)
 }
 
@@ -59,7 +68,13 @@ fn and_opp(work: &[u16], start: usize, proof: &mut [u8], at: Derived, d: Defined
 {
     let first = subst2(work, start, proof, at, d.a, d.x, d.x);
     let second = subst2(work, start, proof, first, d.b, d.y, d.y);
-    let down = cut(proof, second, first.clause, second.clause, representative(work, d.x));
+    let down = cut(
+        proof,
+        second,
+        first.clause,
+        second.clause,
+        representative(work, d.x),
+    );
     two(down, given(down, 0))
 }
 
@@ -79,7 +94,14 @@ fn and_own(work: &[u16], start: usize, proof: &mut [u8], at: Derived, d: Defined
 }
 
 // The gate implies the earlier gate u with its key.
-fn and_down(work: &[u16], start: usize, proof: &mut [u8], at: Derived, d: Defined, u: usize) -> Derived
+fn and_down(
+    work: &[u16],
+    start: usize,
+    proof: &mut [u8],
+    at: Derived,
+    d: Defined,
+    u: usize,
+) -> Derived
     requires { ⌜ Room (length (now proof)) at 6 × (start ≤ length (now work)) × (u < 65536) ⌝ }
     ensures few { λ r. ⌜ Few at 6 r ⌝ }
     ensures emits { λ r. ⌜ ((t : List Entry) (links : List (List ℕ)) → Known (now (work .entry)) start t links → Next t links (literalsOf d) → u < length links
@@ -87,12 +109,31 @@ fn and_down(work: &[u16], start: usize, proof: &mut [u8], at: Derived, d: Define
 {
     let second = subst2(work, start, proof, at, d.b, d.y, d.y);
     let first = subst2(work, start, proof, second, d.a, d.x, d.x);
-    let half = cut(proof, first, first.clause, number_at(work, start, u, 2), representative(work, d.x));
-    cut(proof, half, second.clause, half.clause, representative(work, d.y))
+    let half = cut(
+        proof,
+        first,
+        first.clause,
+        number_at(work, start, u, 2),
+        representative(work, d.x),
+    );
+    cut(
+        proof,
+        half,
+        second.clause,
+        half.clause,
+        representative(work, d.y),
+    )
 }
 
 // The earlier gate u with its key implies the gate.
-fn and_up(work: &[u16], start: usize, proof: &mut [u8], at: Derived, d: Defined, u: usize) -> Derived
+fn and_up(
+    work: &[u16],
+    start: usize,
+    proof: &mut [u8],
+    at: Derived,
+    d: Defined,
+    u: usize,
+) -> Derived
     requires { ⌜ Room (length (now proof)) at 4 × (start ≤ length (now work)) × (u < 65536) ⌝ }
     ensures few { λ r. ⌜ Few at 4 r ⌝ }
     ensures emits { λ r. ⌜ ((t : List Entry) (links : List (List ℕ)) → Known (now (work .entry)) start t links → Next t links (literalsOf d) → u < length links
@@ -101,8 +142,20 @@ fn and_up(work: &[u16], start: usize, proof: &mut [u8], at: Derived, d: Defined,
     let not_x = Literal { code: d.x }.complement();
     let not_y = Literal { code: d.y }.complement();
     let third = subst2(work, start, proof, at, d.c, not_x.code, not_y.code);
-    let half = cut(proof, third, number_at(work, start, u, 0), third.clause, representative(work, d.x));
-    cut(proof, half, number_at(work, start, u, 1), half.clause, representative(work, d.y))
+    let half = cut(
+        proof,
+        third,
+        number_at(work, start, u, 0),
+        third.clause,
+        representative(work, d.x),
+    );
+    cut(
+        proof,
+        half,
+        number_at(work, start, u, 1),
+        half.clause,
+        representative(work, d.y),
+    )
 }
 
 // The key is not constant: the gate stands for itself, or for the earlier gate with its key.

@@ -29,7 +29,15 @@ pub fn subst1(work: &[u16], start: usize, proof: &mut [u8], at: Derived, c: u16,
 }
 
 // Those of l and m for both, in turn; once if they are the same.
-pub fn subst2(work: &[u16], start: usize, proof: &mut [u8], at: Derived, c: u16, l: u16, m: u16) -> Derived
+pub fn subst2(
+    work: &[u16],
+    start: usize,
+    proof: &mut [u8],
+    at: Derived,
+    c: u16,
+    l: u16,
+    m: u16,
+) -> Derived
     requires { ⌜ Room (length (now proof)) at 2 × (start ≤ length (now work)) ⌝ }
     ensures few { λ r. ⌜ Few at 2 r ⌝ }
     ensures emits { λ r. ⌜ ((t : List Entry) (links : List (List ℕ)) → Known (now (work .entry)) start t links → netOf l < length links → netOf m < length links
@@ -43,7 +51,16 @@ pub fn subst2(work: &[u16], start: usize, proof: &mut [u8], at: Derived, c: u16,
 }
 
 // From a clause of ¬n, l and m, the one that links n to its representative; none where that is true.
-pub fn link2(work: &[u16], start: usize, proof: &mut [u8], at: Derived, n: u16, c: u16, l: u16, m: u16) -> Derived
+pub fn link2(
+    work: &[u16],
+    start: usize,
+    proof: &mut [u8],
+    at: Derived,
+    n: u16,
+    c: u16,
+    l: u16,
+    m: u16,
+) -> Derived
     requires { ⌜ Room (length (now proof)) at 2 × (start ≤ length (now work)) ⌝ }
     ensures few { λ r. ⌜ Few at 2 r ⌝ }
     ensures emits { λ r. ⌜ ((t : List Entry) (links : List (List ℕ)) → Known (now (work .entry)) start t links → netOf n < length t → netOf l < length links → netOf m < length links

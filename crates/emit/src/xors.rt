@@ -49,7 +49,13 @@ fn xor_same(work: &[u16], start: usize, proof: &mut [u8], at: Derived, d: Define
     let not_y = Literal { code: d.y }.complement();
     let first = subst2(work, start, proof, at, d.a, d.x, d.y);
     let fourth = subst2(work, start, proof, first, d.d, not_x.code, not_y.code);
-    let down = cut(proof, fourth, first.clause, fourth.clause, representative(work, d.x));
+    let down = cut(
+        proof,
+        fourth,
+        first.clause,
+        fourth.clause,
+        representative(work, d.x),
+    );
     two(down, given(down, 0))
 }
 
@@ -70,7 +76,14 @@ fn xor_own(work: &[u16], start: usize, proof: &mut [u8], at: Derived, d: Defined
 }
 
 // The gate implies the core of the earlier gate u with its key.
-fn xor_down(work: &[u16], start: usize, proof: &mut [u8], at: Derived, d: Defined, u: usize) -> Derived
+fn xor_down(
+    work: &[u16],
+    start: usize,
+    proof: &mut [u8],
+    at: Derived,
+    d: Defined,
+    u: usize,
+) -> Derived
     requires { ⌜ Room (length (now proof)) at 7 × (start ≤ length (now work)) × (u < 65536) ⌝ }
     ensures few { λ r. ⌜ Few at 7 r ⌝ }
     ensures emits { λ r. ⌜ ((t : List Entry) (links : List (List ℕ)) → Known (now (work .entry)) start t links → Next t links (literalsOf d) → u < length links
@@ -82,12 +95,31 @@ fn xor_down(work: &[u16], start: usize, proof: &mut [u8], at: Derived, d: Define
     let first = subst2(work, start, proof, at, d.a, d.x, d.y);
     let left = cut(proof, first, first.clause, number_at(work, start, u, 1), q);
     let fourth = subst2(work, start, proof, left, d.d, not_x.code, not_y.code);
-    let right = cut(proof, fourth, number_at(work, start, u, 2), fourth.clause, q);
-    cut(proof, right, left.clause, right.clause, representative(work, d.x))
+    let right = cut(
+        proof,
+        fourth,
+        number_at(work, start, u, 2),
+        fourth.clause,
+        q,
+    );
+    cut(
+        proof,
+        right,
+        left.clause,
+        right.clause,
+        representative(work, d.x),
+    )
 }
 
 // The core of the earlier gate u with its key implies the gate.
-fn xor_up(work: &[u16], start: usize, proof: &mut [u8], at: Derived, d: Defined, u: usize) -> Derived
+fn xor_up(
+    work: &[u16],
+    start: usize,
+    proof: &mut [u8],
+    at: Derived,
+    d: Defined,
+    u: usize,
+) -> Derived
     requires { ⌜ Room (length (now proof)) at 7 × (start ≤ length (now work)) × (u < 65536) ⌝ }
     ensures few { λ r. ⌜ Few at 7 r ⌝ }
     ensures emits { λ r. ⌜ ((t : List Entry) (links : List (List ℕ)) → Known (now (work .entry)) start t links → Next t links (literalsOf d) → u < length links
@@ -97,10 +129,22 @@ fn xor_up(work: &[u16], start: usize, proof: &mut [u8], at: Derived, d: Defined,
     let not_x = Literal { code: d.x }.complement();
     let not_y = Literal { code: d.y }.complement();
     let second = subst2(work, start, proof, at, d.b, d.x, not_y.code);
-    let left = cut(proof, second, number_at(work, start, u, 0), second.clause, q);
+    let left = cut(
+        proof,
+        second,
+        number_at(work, start, u, 0),
+        second.clause,
+        q,
+    );
     let third = subst2(work, start, proof, left, d.c, not_x.code, d.y);
     let right = cut(proof, third, third.clause, number_at(work, start, u, 3), q);
-    cut(proof, right, left.clause, right.clause, representative(work, d.x))
+    cut(
+        proof,
+        right,
+        left.clause,
+        right.clause,
+        representative(work, d.x),
+    )
 }
 
 // The key is not constant: the gate stands for itself, or for the core of the earlier gate with its key.
