@@ -1,8 +1,8 @@
 -- Derivations emitted one after the other: a clause that is there, a cut of two, a derivation that goes on from another's clause, and the
 -- trees of a gate.
-use Prim.Native.Nat.{ℕ, suc, _+_}
+use Prim.Native.Nat.{ℕ, suc, _+_, _≤_}
 use mathlib.Core.Path.{_≡_, refl, sym, ap, _∙_, subst}
-use mathlib.Core.Bool.{true}
+use mathlib.Core.Bool.{Bool, true}
 use mathlib.Core.List.{List, [], _∷_, _++_, append-assoc, append-nil}
 use native.Mathlib.Omega.{arith}
 use lib.Dec.{eqb}
@@ -15,7 +15,7 @@ use Rattle.emit_laws.specs.Trees.Tree.{old, cut}
 use Rattle.emit_laws.specs.Stepwise.{Then}
 use Rattle.emit.specs.declared.lines.Derived.{Derived}
 use Rattle.emit.specs.declared.kept.Kept.{Kept}
-use Rattle.emit.specs.Emission.{Written, Few, Emits, EmitsAll}
+use Rattle.emit.specs.Emission.{Written, Room, Few, FewKept, Emits, EmitsAll}
 
 -- ---- at most so many lines
 
@@ -25,6 +25,14 @@ few-old e = rw e (record { lines = omega arith; clauses = omega arith })
 
 pub few-then : {s a r : Derived} {m n : ℕ} → Few s m a → Few a n r → Few s (m + n) r
 few-then f g = record { lines = omega (arith, f .lines, g .lines); clauses = omega (arith, f .clauses, g .clauses) }
+
+pub few-kept : {s r : Derived} {n : ℕ} {k : Kept} {linked : Bool} {ns : List ℕ} → Few s n r
+    → k ≡ record { lines = r .lines; clauses = r .clauses; linked = linked; numbers = ns } → FewKept s n k
+few-kept f e = rw e (record { lines = f .lines; clauses = f .clauses })
+
+-- the room that is left, in as many bytes
+pub room-then : {bytes more n m : ℕ} {s a : Derived} {l : ℕ} → Room bytes s more → Few s n a → l ≡ bytes → n + m ≤ more → Room l a m
+room-then r f e h = record { bytes-for-all = omega (arith, r .bytes-for-all, f .lines); numbers = omega (arith, r .numbers, f .clauses) }
 
 -- ---- one tree
 

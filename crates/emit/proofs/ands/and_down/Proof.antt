@@ -1,3 +1,7 @@
+-- Two cuts, as `implyAnd` has them: the second clause is emitted first.
+use mathlib.Core.Path.{_∙_}
+use native.Mathlib.Omega.{arith}
+use Rattle.emit.proofs.EmitLaws.{few-then, room-then, emits-cut, emits-cut-right}
 use borrow.Author.Needs.{needs}
 use Rattle.emit.proofs.ands.and_down.Statement.{statement}
 use Rattle.emit.proofs.ands.and_down.Tie as tie
@@ -8,41 +12,45 @@ use Rattle.emit.proofs.subst.subst2.Reads as subst2-reads
 use Rattle.table.proofs.links.number_at.Reads as number-at-reads
 use Rattle.table.proofs.rows.representative.Reads as representative-reads
 
--- src/ands.rt:88:9
 subst2-requires : tie.Need-subst2-requires
 subst2-requires c κs = search needs
 
--- src/ands.rt:89:9
 subst2-requires-2 : tie.Need-subst2-requires-2
 subst2-requires-2 c κs = search needs
 
--- src/ands.rt:90:48
 number-at-requires : tie.Need-number-at-requires
 number-at-requires c κs = search needs
 
--- src/ands.rt:90:78
 representative-requires : tie.Need-representative-requires
 representative-requires c κs = search needs
 
--- src/ands.rt:90:9
 cut-requires : tie.Need-cut-requires
 cut-requires c κs = search needs
 
--- src/ands.rt:91:50
 representative-requires-2 : tie.Need-representative-requires-2
 representative-requires-2 c κs = search needs
 
--- src/ands.rt:91:5
 cut-requires-2 : tie.Need-cut-requires-2
-cut-requires-2 c κs = ?
+cut-requires-2 c κs =
+    room-then (c .before .before .before .before .before .before .before .before .before .before .before .before .before .before .before .before .before .before .pre .0) (few-then (few-then (c .before .before .before .before .before .before .before .before .before .before .before .before .before .before .subst2 .ensures .0) (c .before .before .before .before .before .before .before .before .before .before .subst22 .ensures .0)) (c .before .before .before .before .cut .ensures .0))
+    (c .before .before .before .proof3 .given ∙ c .before .before .before .before .before .before .before .before .before .proof2 .given ∙ c .before .before .before .before .before .before .before .before .before .before .before .before .before .proof .given) (omega arith)
 
--- src/ands.rt:82:1
 same-length : tie.Need-same-length
 same-length c = search needs
 
--- src/ands.rt:82:1
 returns : tie.Need-returns
-returns c = ?
+returns c =
+    let f = c .before .before .before .before .before .before .before .before .before .before .before .before .before .before .before .before .before .subst2 .ensures in
+    let g = c .before .before .before .before .before .before .before .before .before .before .before .before .before .subst22 .ensures in
+    let i = c .before .before .before .before .before .before .before .cut .ensures in
+    let j = c .before .before .cut2 .ensures in (
+      few-then (few-then (few-then (f .0) (g .0)) (i .0)) (j .0),
+      λ t links k h u.
+          emits-cut (f .1 t links k (h .y) (h .y))
+          (emits-cut-right (g .1 t links k (h .x) (h .x))
+          (rw (c .before .before .before .before .before .before .before .before .before .number-at .ensures links (k .numbers) u, c .before .before .before .before .before .before .before .before .representative .ensures t (k .rows) (omega arith)) at (i .1)))
+          (rw (c .before .before .before .representative2 .ensures t (k .rows) (omega arith)) at (j .1)),
+    )
 
 pub and-down-spec : {M : Type 1} → statement M
 and-down-spec =

@@ -1,3 +1,10 @@
+-- The tests find the case of the definition.
+use mathlib.Core.Path.{sym, _∙_}
+use mathlib.Core.Bool.{or-true}
+use mathlib.Core.Logic.{⊎-elim}
+use native.Mathlib.Omega.{arith}
+use borrow.Author.Tests.{eq-eqb}
+use Rattle.emit.proofs.CaseLaws.{and-nil, and-pass, and-opp, and-pair, and-case}
 use borrow.Author.Needs.{needs}
 use Rattle.emit.proofs.ands.and_gate.Statement.{statement}
 use Rattle.emit.proofs.ands.and_gate.Tie as tie
@@ -10,65 +17,70 @@ use Rattle.emit.proofs.ands.and_pair.Reads as and-pair-reads
 use Rattle.emit.proofs.ands.and_pass.Reads as and-pass-reads
 use Rattle.table.proofs.rows.representative.Reads as representative-reads
 
--- src/ands.rt:132:9
 representative-requires : tie.Need-representative-requires
 representative-requires c κs = search needs
 
--- src/ands.rt:133:9
 representative-requires-2 : tie.Need-representative-requires-2
 representative-requires-2 c κs = search needs
 
--- src/ands.rt:135:9
 and-nil-requires : tie.Need-and-nil-requires
 and-nil-requires c κs = search needs
 
--- src/ands.rt:135:9
 same-length : tie.Need-same-length
 same-length c = search needs
 
--- src/ands.rt:135:9
 returns : tie.Need-returns
-returns c = ?
+returns c =
+    let a = c .before .before .before .before .before .before .before .before .before .args in
+    let x = c .before .before .before .before .before .before .representative in
+    let y = c .before .before .before .before .before .representative2 in
+    let g = c .before .before .and-nil .ensures in
+    (search needs, λ t links k h. and-case t links (a .d) (x .ensures t (k .rows) (omega arith)) (y .ensures t (k .rows) (omega arith)) (and-nil (x .result) (y .result) (c .before .before .before .before .if1 .taken)) (g .1 t links k h))
 
--- src/ands.rt:138:9
 and-pass-requires : tie.Need-and-pass-requires
 and-pass-requires c κs = search needs
 
--- src/ands.rt:138:9
 same-length-2 : tie.Need-same-length-2
 same-length-2 c = search needs
 
--- src/ands.rt:138:9
 returns-2 : tie.Need-returns-2
-returns-2 c = ?
+returns-2 c =
+    let a = c .before .before .before .before .before .before .before .before .before .before .args in
+    let x = c .before .before .before .before .before .before .before .representative in
+    let y = c .before .before .before .before .before .before .representative2 in
+    let g = c .before .before .and-pass .ensures in
+    (search needs, λ t links k h. and-case t links (a .d) (x .ensures t (k .rows) (omega arith)) (y .ensures t (k .rows) (omega arith)) (and-pass (x .result) (y .result) (c .before .before .before .before .before .if1 .left) (⊎-elim (λ w. rw (eq-eqb (x .result) 1 (w .taken))) (λ w. rw (w .1 .taken, or-true)) (c .before .before .before .before .if2 .came))) (g .1 t links k h))
 
--- src/ands.rt:140:9
 complement-requires : tie.Need-complement-requires
 complement-requires c κs = search needs
 
--- src/ands.rt:142:9
 and-opp-requires : tie.Need-and-opp-requires
 and-opp-requires c κs = search needs
 
--- src/ands.rt:142:9
 same-length-3 : tie.Need-same-length-3
 same-length-3 c = search needs
 
--- src/ands.rt:142:9
 returns-3 : tie.Need-returns-3
-returns-3 c = ?
+returns-3 c =
+    let a = c .before .before .before .before .before .before .before .before .before .before .before .before .before .before .args in
+    let x = c .before .before .before .before .before .before .before .before .before .before .before .representative in
+    let y = c .before .before .before .before .before .before .before .before .before .before .representative2 in
+    let g = c .before .before .and-opp .ensures in
+    (search needs, λ t links k h. and-case t links (a .d) (x .ensures t (k .rows) (omega arith)) (y .ensures t (k .rows) (omega arith)) (and-opp (x .result) (y .result) (c .before .before .before .before .before .before .before .before .before .if1 .left) (c .before .before .before .before .before .before .before .before .if2 .left) (c .before .before .before .before .before .before .before .if3 .left) (c .before .before .before .before .if4 .taken ∙ c .before .before .before .before .before .before .complement .ensures)) (g .1 t links k h))
 
--- src/ands.rt:144:5
 and-pair-requires : tie.Need-and-pair-requires
 and-pair-requires c κs = search needs
 
--- src/ands.rt:126:1
 same-length-4 : tie.Need-same-length-4
 same-length-4 c = search needs
 
--- src/ands.rt:126:1
 returns-4 : tie.Need-returns-4
-returns-4 c = ?
+returns-4 c =
+    let a = c .before .before .before .before .before .before .before .before .before .before .before .before .before .before .args in
+    let x = c .before .before .before .before .before .before .before .before .before .before .before .representative in
+    let y = c .before .before .before .before .before .before .before .before .before .before .representative2 in
+    let g = c .before .before .and-pair .ensures in
+    (search needs, λ t links k h. and-case t links (a .d) (x .ensures t (k .rows) (omega arith)) (y .ensures t (k .rows) (omega arith)) (and-pair (x .result) (y .result) (c .before .before .before .before .before .before .before .before .before .if1 .left) (c .before .before .before .before .before .before .before .before .if2 .left) (c .before .before .before .before .before .before .before .if3 .left) (λ e. c .before .before .before .before .if4 .left (e ∙ sym (c .before .before .before .before .before .before .complement .ensures)))) (g .1 t links k h))
 
 pub and-gate-spec : {M : Type 1} → statement M
 and-gate-spec =

@@ -1,3 +1,7 @@
+-- The two clauses over the representatives, and their cut; the complement stands for true and has no link.
+use native.Mathlib.Omega.{arith}
+use Rattle.emit_laws.specs.CaseTrees.{andTrees}
+use Rattle.emit.proofs.EmitLaws.{few-old, few-then, few-kept, emits-old, emits-cut, emits-two}
 use borrow.Author.Needs.{needs}
 use Rattle.emit.proofs.ands.and_opp.Statement.{statement}
 use Rattle.emit.proofs.ands.and_opp.Tie as tie
@@ -9,37 +13,40 @@ use Rattle.emit.proofs.lines.given.Reads as given-reads
 use Rattle.emit.proofs.subst.subst2.Reads as subst2-reads
 use Rattle.table.proofs.rows.representative.Reads as representative-reads
 
--- src/ands.rt:60:9
 subst2-requires : tie.Need-subst2-requires
 subst2-requires c κs = search needs
 
--- src/ands.rt:61:9
 subst2-requires-2 : tie.Need-subst2-requires-2
 subst2-requires-2 c κs = search needs
 
--- src/ands.rt:62:64
 representative-requires : tie.Need-representative-requires
 representative-requires c κs = search needs
 
--- src/ands.rt:62:9
 cut-requires : tie.Need-cut-requires
 cut-requires c κs = search needs
 
--- src/ands.rt:63:15
 given-requires : tie.Need-given-requires
 given-requires c κs = search needs
 
--- src/ands.rt:63:5
 two-requires : tie.Need-two-requires
 two-requires c κs = search needs
 
--- src/ands.rt:54:1
 same-length : tie.Need-same-length
 same-length c = search needs
 
--- src/ands.rt:54:1
 returns : tie.Need-returns
-returns c = ?
+unfolding andTrees
+returns c =
+    let f = c .before .before .before .before .before .before .before .before .before .before .before .before .before .subst2 .ensures in
+    let g = c .before .before .before .before .before .before .before .before .before .subst22 .ensures in
+    let i = c .before .before .before .before .cut .ensures in (
+      few-kept (few-then {n = 0} (few-then (few-then (f .0) (g .0)) (i .0)) (few-old (c .before .given .ensures))) (c .two .ensures),
+      λ t links k h.
+          emits-two
+          (emits-cut (f .1 t links k (h .x) (h .x)) (g .1 t links k (h .y) (h .y)) (rw (c .before .before .before .before .before .representative .ensures t (k .rows) (omega arith)) at (i .1)))
+          (emits-old _ _ 0 (c .before .given .ensures))
+          (c .two .ensures),
+    )
 
 pub and-opp-spec : {M : Type 1} → statement M
 and-opp-spec =

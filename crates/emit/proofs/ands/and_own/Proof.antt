@@ -1,3 +1,6 @@
+-- The clauses one after the other, the third over complemented operands.
+use native.Mathlib.Omega.{arith}
+use Rattle.emit.proofs.EmitLaws.{few-then, few-kept, none, then, emits-all}
 use borrow.Author.Needs.{needs}
 use Rattle.emit.proofs.ands.and_own.Statement.{statement}
 use Rattle.emit.proofs.ands.and_own.Tie as tie
@@ -7,37 +10,40 @@ use Rattle.clause.proofs.Literal.complement.Reads as complement-reads
 use Rattle.emit.proofs.kept.three.Reads as three-reads
 use Rattle.emit.proofs.subst.subst2.Reads as subst2-reads
 
--- src/ands.rt:73:9
 complement-requires : tie.Need-complement-requires
 complement-requires c κs = search needs
 
--- src/ands.rt:74:9
 complement-requires-2 : tie.Need-complement-requires-2
 complement-requires-2 c κs = search needs
 
--- src/ands.rt:75:9
 subst2-requires : tie.Need-subst2-requires
 subst2-requires c κs = search needs
 
--- src/ands.rt:76:9
 subst2-requires-2 : tie.Need-subst2-requires-2
 subst2-requires-2 c κs = search needs
 
--- src/ands.rt:77:9
 subst2-requires-3 : tie.Need-subst2-requires-3
 subst2-requires-3 c κs = search needs
 
--- src/ands.rt:78:5
 three-requires : tie.Need-three-requires
 three-requires c κs = search needs
 
--- src/ands.rt:67:1
 same-length : tie.Need-same-length
 same-length c = search needs
 
--- src/ands.rt:67:1
 returns : tie.Need-returns
-returns c = ?
+returns c =
+    let f = c .before .before .before .before .before .before .before .before .before .before .before .subst2 .ensures in
+    let g = c .before .before .before .before .before .before .before .subst22 .ensures in
+    let i = c .before .before .before .subst23 .ensures in
+    let x = c .before .before .before .before .before .before .before .before .before .before .before .before .before .before .complement .ensures in
+    let y = c .before .before .before .before .before .before .before .before .before .before .before .before .before .complement2 .ensures in (
+      few-kept (few-then (few-then (f .0) (g .0)) (i .0)) (c .three .ensures),
+      λ t links k h.
+          emits-all
+          (then (f .1 t links k (h .x) (h .x)) (then (g .1 t links k (h .y) (h .y)) (then (rw (x, y) at (i .1 t links k (omega (arith, x)) (omega (arith, y)))) none)))
+          (c .three .ensures),
+    )
 
 pub and-own-spec : {M : Type 1} → statement M
 and-own-spec =

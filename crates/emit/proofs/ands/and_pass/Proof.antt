@@ -1,3 +1,7 @@
+-- The links of the gate and of its complement, over complemented operands.
+use native.Mathlib.Omega.{arith}
+use Rattle.emit_laws.specs.CaseTrees.{andTrees}
+use Rattle.emit.proofs.EmitLaws.{few-then, few-kept, emits-two}
 use borrow.Author.Needs.{needs}
 use Rattle.emit.proofs.ands.and_pass.Statement.{statement}
 use Rattle.emit.proofs.ands.and_pass.Tie as tie
@@ -7,37 +11,41 @@ use Rattle.clause.proofs.Literal.complement.Reads as complement-reads
 use Rattle.emit.proofs.kept.two.Reads as two-reads
 use Rattle.emit.proofs.subst.link2.Reads as link2-reads
 
--- src/ands.rt:45:9
 complement-requires : tie.Need-complement-requires
 complement-requires c κs = search needs
 
--- src/ands.rt:46:9
 complement-requires-2 : tie.Need-complement-requires-2
 complement-requires-2 c κs = search needs
 
--- src/ands.rt:47:9
 complement-requires-3 : tie.Need-complement-requires-3
 complement-requires-3 c κs = search needs
 
--- src/ands.rt:48:9
 link2-requires : tie.Need-link2-requires
 link2-requires c κs = search needs
 
--- src/ands.rt:49:9
 link2-requires-2 : tie.Need-link2-requires-2
 link2-requires-2 c κs = search needs
 
--- src/ands.rt:50:5
 two-requires : tie.Need-two-requires
 two-requires c κs = search needs
 
--- src/ands.rt:39:1
 same-length : tie.Need-same-length
 same-length c = search needs
 
--- src/ands.rt:39:1
 returns : tie.Need-returns
-returns c = ?
+unfolding andTrees
+returns c =
+    let f = c .before .before .before .before .before .before .before .link2 .ensures in
+    let g = c .before .before .before .link22 .ensures in
+    let n = c .before .before .before .before .before .before .before .before .before .before .before .complement .ensures in
+    let x = c .before .before .before .before .before .before .before .before .before .before .complement2 .ensures in
+    let y = c .before .before .before .before .before .before .before .before .before .complement3 .ensures in (
+      few-kept (few-then (f .0) (g .0)) (c .two .ensures),
+      λ t links k h.
+          emits-two (f .1 t links k (omega arith) (h .y) (h .y))
+          (rw (n, x, y) at (g .1 t links k (omega (arith, n)) (omega (arith, x)) (omega (arith, y))))
+          (c .two .ensures),
+    )
 
 pub and-pass-spec : {M : Type 1} → statement M
 and-pass-spec =

@@ -1,3 +1,7 @@
+-- Two cuts, as `implyAnd` has them, with two clauses that are there.
+use mathlib.Core.Path.{_∙_}
+use native.Mathlib.Omega.{arith}
+use Rattle.emit.proofs.EmitLaws.{few-then, room-then, emits-cut-left}
 use borrow.Author.Needs.{needs}
 use Rattle.emit.proofs.ands.and_up.Statement.{statement}
 use Rattle.emit.proofs.ands.and_up.Tie as tie
@@ -9,49 +13,51 @@ use Rattle.emit.proofs.subst.subst2.Reads as subst2-reads
 use Rattle.table.proofs.links.number_at.Reads as number-at-reads
 use Rattle.table.proofs.rows.representative.Reads as representative-reads
 
--- src/ands.rt:101:9
 complement-requires : tie.Need-complement-requires
 complement-requires c κs = search needs
 
--- src/ands.rt:102:9
 complement-requires-2 : tie.Need-complement-requires-2
 complement-requires-2 c κs = search needs
 
--- src/ands.rt:103:9
 subst2-requires : tie.Need-subst2-requires
 subst2-requires c κs = search needs
 
--- src/ands.rt:104:34
 number-at-requires : tie.Need-number-at-requires
 number-at-requires c κs = search needs
 
--- src/ands.rt:104:78
 representative-requires : tie.Need-representative-requires
 representative-requires c κs = search needs
 
--- src/ands.rt:104:9
 cut-requires : tie.Need-cut-requires
 cut-requires c κs = search needs
 
--- src/ands.rt:105:22
 number-at-requires-2 : tie.Need-number-at-requires-2
 number-at-requires-2 c κs = search needs
 
--- src/ands.rt:105:65
 representative-requires-2 : tie.Need-representative-requires-2
 representative-requires-2 c κs = search needs
 
--- src/ands.rt:105:5
 cut-requires-2 : tie.Need-cut-requires-2
-cut-requires-2 c κs = ?
+cut-requires-2 c κs =
+    room-then (c .before .before .before .before .before .before .before .before .before .before .before .before .before .before .before .before .before .pre .0) (few-then (c .before .before .before .before .before .before .before .before .before .before .before .subst2 .ensures .0) (c .before .before .before .before .before .cut .ensures .0)) (c .before .before .before .before .proof2 .given ∙ c .before .before .before .before .before .before .before .before .before .before .proof .given) (omega arith)
 
--- src/ands.rt:95:1
 same-length : tie.Need-same-length
 same-length c = search needs
 
--- src/ands.rt:95:1
 returns : tie.Need-returns
-returns c = ?
+returns c =
+    let f = c .before .before .before .before .before .before .before .before .before .before .before .before .before .before .subst2 .ensures in
+    let i = c .before .before .before .before .before .before .before .before .cut .ensures in
+    let j = c .before .before .cut2 .ensures in
+    let x = c .before .before .before .before .before .before .before .before .before .before .before .before .before .before .before .before .before .complement .ensures in
+    let y = c .before .before .before .before .before .before .before .before .before .before .before .before .before .before .before .before .complement2 .ensures in (
+      few-then (few-then (f .0) (i .0)) (j .0),
+      λ t links k h u.
+          emits-cut-left
+          (emits-cut-left (rw (x, y) at (f .1 t links k (omega (arith, x)) (omega (arith, y))))
+          (rw (c .before .before .before .before .before .before .before .before .before .before .number-at .ensures links (k .numbers) u, c .before .before .before .before .before .before .before .before .before .representative .ensures t (k .rows) (omega arith)) at (i .1)))
+          (rw (c .before .before .before .before .number-at2 .ensures links (k .numbers) u, c .before .before .before .representative2 .ensures t (k .rows) (omega arith)) at (j .1)),
+    )
 
 pub and-up-spec : {M : Type 1} → statement M
 and-up-spec =
