@@ -1,3 +1,6 @@
+-- The tests find the case of the definition.
+use native.Mathlib.Omega.{arith}
+use Rattle.emit.proofs.CaseLaws.{xor-pass, xor-same, xor-pair, xor-case}
 use borrow.Author.Needs.{needs}
 use Rattle.emit.proofs.xors.xor_gate.Statement.{statement}
 use Rattle.emit.proofs.xors.xor_gate.Tie as tie
@@ -8,49 +11,53 @@ use Rattle.emit.proofs.xors.xor_pass.Reads as xor-pass-reads
 use Rattle.emit.proofs.xors.xor_same.Reads as xor-same-reads
 use Rattle.table.proofs.rows.representative.Reads as representative-reads
 
--- src/xors.rt:130:9
 representative-requires : tie.Need-representative-requires
 representative-requires c κs = search needs
 
--- src/xors.rt:131:9
 representative-requires-2 : tie.Need-representative-requires-2
 representative-requires-2 c κs = search needs
 
--- src/xors.rt:133:9
 xor-pass-requires : tie.Need-xor-pass-requires
 xor-pass-requires c κs = search needs
 
--- src/xors.rt:133:9
 same-length : tie.Need-same-length
 same-length c = search needs
 
--- src/xors.rt:133:9
 returns : tie.Need-returns
-returns c = ?
+returns c =
+    let a = c .before .before .before .before .before .before .before .before .before .args in
+    let x = c .before .before .before .before .before .before .representative in
+    let y = c .before .before .before .before .before .representative2 in
+    let g = c .before .before .xor-pass .ensures in
+    (search needs, λ t links k h. xor-case t links (a .d) (x .ensures t (k .rows) (omega arith)) (y .ensures t (k .rows) (omega arith)) (xor-pass (x .result) (y .result) (c .before .before .before .before .if1 .taken)) (g .1 t links k h))
 
--- src/xors.rt:136:9
 xor-same-requires : tie.Need-xor-same-requires
 xor-same-requires c κs = search needs
 
--- src/xors.rt:136:9
 same-length-2 : tie.Need-same-length-2
 same-length-2 c = search needs
 
--- src/xors.rt:136:9
 returns-2 : tie.Need-returns-2
-returns-2 c = ?
+returns-2 c =
+    let a = c .before .before .before .before .before .before .before .before .before .before .args in
+    let x = c .before .before .before .before .before .before .before .representative in
+    let y = c .before .before .before .before .before .before .representative2 in
+    let g = c .before .before .xor-same .ensures in
+    (search needs, λ t links k h. xor-case t links (a .d) (x .ensures t (k .rows) (omega arith)) (y .ensures t (k .rows) (omega arith)) (xor-same (x .result) (y .result) (c .before .before .before .before .before .if1 .left) (c .before .before .before .before .if2 .taken)) (g .1 t links k h))
 
--- src/xors.rt:138:5
 xor-pair-requires : tie.Need-xor-pair-requires
 xor-pair-requires c κs = search needs
 
--- src/xors.rt:124:1
 same-length-3 : tie.Need-same-length-3
 same-length-3 c = search needs
 
--- src/xors.rt:124:1
 returns-3 : tie.Need-returns-3
-returns-3 c = ?
+returns-3 c =
+    let a = c .before .before .before .before .before .before .before .before .before .before .args in
+    let x = c .before .before .before .before .before .before .before .representative in
+    let y = c .before .before .before .before .before .before .representative2 in
+    let g = c .before .before .xor-pair .ensures in
+    (search needs, λ t links k h. xor-case t links (a .d) (x .ensures t (k .rows) (omega arith)) (y .ensures t (k .rows) (omega arith)) (xor-pair (x .result) (y .result) (c .before .before .before .before .before .if1 .left) (c .before .before .before .before .if2 .left)) (g .1 t links k h))
 
 pub xor-gate-spec : {M : Type 1} → statement M
 xor-gate-spec =

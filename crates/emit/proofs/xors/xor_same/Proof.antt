@@ -1,3 +1,7 @@
+-- The first and the last clause over the representatives, and their cut; the complement stands for true and has no link.
+use native.Mathlib.Omega.{arith}
+use Rattle.emit_laws.specs.CaseTrees.{xorTrees}
+use Rattle.emit.proofs.EmitLaws.{few-old, few-then, few-kept, emits-old, emits-cut, emits-two}
 use borrow.Author.Needs.{needs}
 use Rattle.emit.proofs.xors.xor_same.Statement.{statement}
 use Rattle.emit.proofs.xors.xor_same.Tie as tie
@@ -10,45 +14,49 @@ use Rattle.emit.proofs.lines.given.Reads as given-reads
 use Rattle.emit.proofs.subst.subst2.Reads as subst2-reads
 use Rattle.table.proofs.rows.representative.Reads as representative-reads
 
--- src/xors.rt:48:9
 complement-requires : tie.Need-complement-requires
 complement-requires c κs = search needs
 
--- src/xors.rt:49:9
 complement-requires-2 : tie.Need-complement-requires-2
 complement-requires-2 c κs = search needs
 
--- src/xors.rt:50:9
 subst2-requires : tie.Need-subst2-requires
 subst2-requires c κs = search needs
 
--- src/xors.rt:51:9
 subst2-requires-2 : tie.Need-subst2-requires-2
 subst2-requires-2 c κs = search needs
 
--- src/xors.rt:52:64
 representative-requires : tie.Need-representative-requires
 representative-requires c κs = search needs
 
--- src/xors.rt:52:9
 cut-requires : tie.Need-cut-requires
 cut-requires c κs = search needs
 
--- src/xors.rt:53:15
 given-requires : tie.Need-given-requires
 given-requires c κs = search needs
 
--- src/xors.rt:53:5
 two-requires : tie.Need-two-requires
 two-requires c κs = search needs
 
--- src/xors.rt:42:1
 same-length : tie.Need-same-length
 same-length c = search needs
 
--- src/xors.rt:42:1
 returns : tie.Need-returns
-returns c = ?
+unfolding xorTrees
+returns c =
+    let f = c .before .before .before .before .before .before .before .before .before .before .before .before .before .subst2 .ensures in
+    let g = c .before .before .before .before .before .before .before .before .before .subst22 .ensures in
+    let i = c .before .before .before .before .cut .ensures in
+    let x = c .before .before .before .before .before .before .before .before .before .before .before .before .before .before .before .before .complement .ensures in
+    let y = c .before .before .before .before .before .before .before .before .before .before .before .before .before .before .before .complement2 .ensures in (
+      few-kept (few-then {n = 0} (few-then (few-then (f .0) (g .0)) (i .0)) (few-old (c .before .given .ensures))) (c .two .ensures),
+      λ t links k h.
+          emits-two
+          (emits-cut (f .1 t links k (h .x) (h .y)) (rw (x, y) at (g .1 t links k (omega (arith, x)) (omega (arith, y))))
+          (rw (c .before .before .before .before .before .representative .ensures t (k .rows) (omega arith)) at (i .1)))
+          (emits-old _ _ 0 (c .before .given .ensures))
+          (c .two .ensures),
+    )
 
 pub xor-same-spec : {M : Type 1} → statement M
 xor-same-spec =
