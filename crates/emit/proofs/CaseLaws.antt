@@ -1,8 +1,8 @@
 -- A gate's trees by the case of its representatives: the tests of the code find the case of the definition, and its trees are emitted.
 use Prim.Native.Nat.{ℕ, _<_}
 use mathlib.Core.Path.{_≡_}
-use mathlib.Core.Bool.{true, false, _||_}
-use mathlib.Core.List.{List, [], _∷_}
+use mathlib.Core.Bool.{Bool, true, false, _||_}
+use mathlib.Core.List.{List}
 use native.Mathlib.Omega.{arith}
 use lib.Dec.{eqb}
 use lib.ListN.{length}
@@ -14,14 +14,15 @@ use Rattle.fold_laws.specs.Cases.AndCase.{nil, pass, opp, pair}
 use Rattle.fold_laws.specs.Cases.XorCase.{pass, same, pair}
 use Rattle.fold_laws.specs.Table.{Entry, repOf}
 use Rattle.fold_laws.specs.Facts.{stands-below}
-use Rattle.emit_laws.specs.CaseTrees.{andTrees, xorTrees}
+use Rattle.emit_laws.specs.Trees.{Tree}
 use Rattle.emit_laws.specs.Gates.{linkOf, trees}
+use Rattle.table.specs.Rows.{Holds}
 use Rattle.emit.specs.declared.lines.Derived.{Derived}
 use Rattle.emit.specs.declared.kept.Kept.{Kept}
 use Rattle.emit.specs.declared.gates.Defined.{Defined}
 use Rattle.emit.specs.Emission.{EmitsAll}
 use Rattle.emit.specs.Known.{Known, Next, literalsOf, numbersOf, keptOf}
-use Rattle.emit.specs.Parts.{andCaseTrees, andOwn, andDown, andUp, xorCaseTrees, xorOwn, xorDown, xorUp}
+use Rattle.emit.specs.Parts.{andCaseTrees, xorCaseTrees}
 
 -- ---- the tests
 
@@ -55,41 +56,30 @@ module _ (p q : ℕ) where
   unfolding xorCase
   xor-pair z e = rw (ne-eqb p 0 z, ne-eqb p q e)
 
--- ---- the trees
+-- ---- the trees of the case
 
-module _ (t : List Entry) (links : List (List ℕ)) (d : Defined) {f g : List ℕ} {s : Derived} {k : Kept} where
-  -- of the case
-  module _ {p q : ℕ} (x : p ≡ repOf t (d .x)) (y : q ≡ repOf t (d .y)) where
-    pub and-case : {c : AndCase} → andCase p q ≡ c → EmitsAll f s g k (andCaseTrees t links c d)
-        → EmitsAll f s g k (trees (repOf t) (linkOf links) false (literalsOf d) (numbersOf d) (keptOf t links (d .n)))
-    unfolding trees
-    and-case e h = rw (← x, ← y, e) h
+-- for every table and all clause numbers that the working numbers stand for
+abbrev Always : List ℕ → ℕ → Defined → (List Entry → List (List ℕ) → Type 0) → Type 0
+Always work start d P = (t : List Entry) (links : List (List ℕ)) → Known work start t links → Next t links (literalsOf d) → P t links
 
-    pub xor-case : {c : XorCase} → xorCase p q ≡ c → EmitsAll f s g k (xorCaseTrees t links c d)
-        → EmitsAll f s g k (trees (repOf t) (linkOf links) true (literalsOf d) (numbersOf d) (keptOf t links (d .n)))
-    unfolding trees
-    xor-case e h = rw (← x, ← y, e) h
+-- a gate's trees, of an XOR where o
+abbrev gateTrees : Bool → Defined → List Entry → List (List ℕ) → List Tree
+gateTrees o d t links = trees (repOf t) (linkOf links) o (literalsOf d) (numbersOf d) (keptOf t links (d .n))
 
-  -- of a key that is new, or that an earlier gate has
-  pub and-new : repOf t (d .n) ≡ d .n → EmitsAll f s g k (andOwn t links d) → EmitsAll f s g k (andCaseTrees t links pair d)
-  unfolding andTrees
-  and-new e h = rw (eq-eqb (repOf t (d .n)) (d .n) e) h
+module _ (d : Defined) {work : List ℕ} {start p q : ℕ} {f g : List ℕ} {s : Derived} {k : Kept}
+    (x : (t : List Entry) → Holds work t → netOf (d .x) < length t → p ≡ repOf t (d .x))
+    (y : (t : List Entry) → Holds work t → netOf (d .y) < length t → q ≡ repOf t (d .y)) where
+  pub and-case : {c : AndCase} → andCase p q ≡ c → Always work start d (λ t links. EmitsAll f s g k (andCaseTrees t links c d))
+      → Always work start d (λ t links. EmitsAll f s g k (gateTrees false d t links))
+  unfolding trees
+  and-case e m t links a h = rw (← x t (a .rows) (omega arith), ← y t (a .rows) (omega arith), e) (m t links a h)
 
-  pub and-hit : (repOf t (d .n) ≡ d .n → ⊥) → EmitsAll f s g k (andDown t links d (keptOf t links (d .n)) ∷ andUp t links d (keptOf t links (d .n)) ∷ [])
-      → EmitsAll f s g k (andCaseTrees t links pair d)
-  unfolding andTrees
-  and-hit e h = rw (ne-eqb (repOf t (d .n)) (d .n) e) h
+  pub xor-case : {c : XorCase} → xorCase p q ≡ c → Always work start d (λ t links. EmitsAll f s g k (xorCaseTrees t links c d))
+      → Always work start d (λ t links. EmitsAll f s g k (gateTrees true d t links))
+  unfolding trees
+  xor-case e m t links a h = rw (← x t (a .rows) (omega arith), ← y t (a .rows) (omega arith), e) (m t links a h)
 
-  pub xor-new : repOf t (d .n) ≡ d .n → EmitsAll f s g k (xorOwn t links d) → EmitsAll f s g k (xorCaseTrees t links pair d)
-  unfolding xorTrees
-  xor-new e h = rw (eq-eqb (repOf t (d .n)) (d .n) e) h
-
-  pub xor-hit : (repOf t (d .n) ≡ d .n → ⊥) → EmitsAll f s g k (xorDown t links d (keptOf t links (d .n)) ∷ xorUp t links d (keptOf t links (d .n)) ∷ [])
-      → EmitsAll f s g k (xorCaseTrees t links pair d)
-  unfolding xorTrees
-  xor-hit e h = rw (ne-eqb (repOf t (d .n)) (d .n) e) h
-
--- the earlier gate is done
+-- the net that a gate stands for, if it is another, is done
 pub hit-done : {work : List ℕ} {start : ℕ} {t : List Entry} {links : List (List ℕ)} (d : Defined) → Known work start t links → Next t links (literalsOf d)
     → (repOf t (d .n) ≡ d .n → ⊥) → netOf (repOf t (d .n)) < length links
 hit-done d k h e = omega (arith, stands-below (k .laws) (d .n) (omega arith) e)

@@ -1,5 +1,5 @@
--- Derivations emitted one after the other: a clause that is there, a cut of two, a derivation that goes on from another's clause, and the
--- trees of a gate.
+-- Derivations emitted one after the other: how many lines at most, a clause that is there, a cut of two, a derivation that goes on from
+-- another's clause, and the trees of a gate.
 use Prim.Native.Nat.{ℕ, suc, _+_, _≤_}
 use mathlib.Core.Path.{_≡_, refl, sym, ap, _∙_, subst}
 use mathlib.Core.Bool.{Bool, true}
@@ -10,7 +10,7 @@ use lib.ListN.{length, length-append}
 use Rattle.model.specs.Answers.{filled}
 use Rattle.table.specs.Links.{linkWidth}
 use Rattle.emit_laws.specs.Replay.{Resolution}
-use Rattle.emit_laws.specs.Trees.{Tree, size, num, lay, length-lay, sizes, nums, lays}
+use Rattle.emit_laws.specs.Trees.{Tree, size, lay, length-lay, sizes, nums, lays}
 use Rattle.emit_laws.specs.Trees.Tree.{old, cut}
 use Rattle.emit_laws.specs.Stepwise.{Then}
 use Rattle.emit.specs.declared.lines.Derived.{Derived}

@@ -32,24 +32,26 @@ representative-requires-2 c κs = search needs
 
 cut-requires-2 : tie.Need-cut-requires-2
 cut-requires-2 c κs =
-    room-then (c .before .before .before .before .before .before .before .before .before .before .before .before .before .before .before .before .before .before .pre .0) (few-then (few-then (c .before .before .before .before .before .before .before .before .before .before .before .before .before .before .subst2 .ensures .0) (c .before .before .before .before .before .before .before .before .before .before .subst22 .ensures .0)) (c .before .before .before .before .cut .ensures .0))
-    (c .before .before .before .proof3 .given ∙ c .before .before .before .before .before .before .before .before .before .proof2 .given ∙ c .before .before .before .before .before .before .before .before .before .before .before .before .before .proof .given) (omega arith)
+    let half = c .before .before .before .before in
+    let first = half .before .before .before .before .before .before in
+    let second = first .before .before .before .before in
+    let start = second .before .before .before .before in
+    room-then (start .pre .0) (few-then (few-then (second .subst2 .ensures .0) (first .subst22 .ensures .0)) (half .cut .ensures .0))
+    (c .before .before .before .proof3 .given ∙ half .before .before .before .before .before .proof2 .given ∙ first .before .before .before .proof .given) (omega arith)
 
 same-length : tie.Need-same-length
 same-length c = search needs
 
 returns : tie.Need-returns
 returns c =
-    let f = c .before .before .before .before .before .before .before .before .before .before .before .before .before .before .before .before .before .subst2 .ensures in
-    let g = c .before .before .before .before .before .before .before .before .before .before .before .before .before .subst22 .ensures in
-    let i = c .before .before .before .before .before .before .before .cut .ensures in
-    let j = c .before .before .cut2 .ensures in (
-      few-then (few-then (few-then (f .0) (g .0)) (i .0)) (j .0),
+    let half = c .before .before .before .before .before .before .before in
+    let first = half .before .before .before .before .before .before in
+    let second = first .before .before .before .before in (
+      few-then (few-then (few-then (second .subst2 .ensures .0) (first .subst22 .ensures .0)) (half .cut .ensures .0)) (c .before .before .cut2 .ensures .0),
       λ t links k h u.
-          emits-cut (f .1 t links k (h .y) (h .y))
-          (emits-cut-right (g .1 t links k (h .x) (h .x))
-          (rw (c .before .before .before .before .before .before .before .before .before .number-at .ensures links (k .numbers) u, c .before .before .before .before .before .before .before .before .representative .ensures t (k .rows) (omega arith)) at (i .1)))
-          (rw (c .before .before .before .representative2 .ensures t (k .rows) (omega arith)) at (j .1)),
+          emits-cut (second .subst2 .ensures .1 t links k (h .y) (h .y))
+          (emits-cut-right (first .subst22 .ensures .1 t links k (h .x) (h .x)) (rw (half .before .before .number-at .ensures links (k .numbers) u, half .before .representative .ensures t (k .rows) (omega arith)) at (half .cut .ensures .1)))
+          (rw (c .before .before .before .representative2 .ensures t (k .rows) (omega arith)) at (c .before .before .cut2 .ensures .1)),
     )
 
 pub and-down-spec : {M : Type 1} → statement M

@@ -2,7 +2,6 @@
 use mathlib.Core.Path.{sym, _∙_}
 use mathlib.Core.Bool.{or-true}
 use mathlib.Core.Logic.{⊎-elim}
-use native.Mathlib.Omega.{arith}
 use borrow.Author.Tests.{eq-eqb}
 use Rattle.emit.proofs.CaseLaws.{and-nil, and-pass, and-opp, and-pair, and-case}
 use borrow.Author.Needs.{needs}
@@ -31,11 +30,14 @@ same-length c = search needs
 
 returns : tie.Need-returns
 returns c =
-    let a = c .before .before .before .before .before .before .before .before .before .args in
-    let x = c .before .before .before .before .before .before .representative in
-    let y = c .before .before .before .before .before .representative2 in
-    let g = c .before .before .and-nil .ensures in
-    (search needs, λ t links k h. and-case t links (a .d) (x .ensures t (k .rows) (omega arith)) (y .ensures t (k .rows) (omega arith)) (and-nil (x .result) (y .result) (c .before .before .before .before .if1 .taken)) (g .1 t links k h))
+    let second = c .before .before .before .before .before in
+    let first = second .before in
+    let start = first .before .before .before in (
+      search needs,
+      and-case (start .args .d) (first .representative .ensures) (second .representative2 .ensures)
+          (and-nil _ _ (c .before .before .before .before .if1 .taken))
+          (c .before .before .and-nil .ensures .1),
+    )
 
 and-pass-requires : tie.Need-and-pass-requires
 and-pass-requires c κs = search needs
@@ -45,11 +47,14 @@ same-length-2 c = search needs
 
 returns-2 : tie.Need-returns-2
 returns-2 c =
-    let a = c .before .before .before .before .before .before .before .before .before .before .args in
-    let x = c .before .before .before .before .before .before .before .representative in
-    let y = c .before .before .before .before .before .before .representative2 in
-    let g = c .before .before .and-pass .ensures in
-    (search needs, λ t links k h. and-case t links (a .d) (x .ensures t (k .rows) (omega arith)) (y .ensures t (k .rows) (omega arith)) (and-pass (x .result) (y .result) (c .before .before .before .before .before .if1 .left) (⊎-elim (λ w. rw (eq-eqb (x .result) 1 (w .taken))) (λ w. rw (w .1 .taken, or-true)) (c .before .before .before .before .if2 .came))) (g .1 t links k h))
+    let second = c .before .before .before .before .before .before in
+    let first = second .before in
+    let start = first .before .before .before in (
+      search needs,
+      and-case (start .args .d) (first .representative .ensures) (second .representative2 .ensures)
+          (and-pass _ _ (c .before .before .before .before .before .if1 .left) (⊎-elim (λ w. rw (eq-eqb _ 1 (w .taken))) (λ w. rw (w .1 .taken, or-true)) (c .before .before .before .before .if2 .came)))
+          (c .before .before .and-pass .ensures .1),
+    )
 
 complement-requires : tie.Need-complement-requires
 complement-requires c κs = search needs
@@ -62,11 +67,16 @@ same-length-3 c = search needs
 
 returns-3 : tie.Need-returns-3
 returns-3 c =
-    let a = c .before .before .before .before .before .before .before .before .before .before .before .before .before .before .args in
-    let x = c .before .before .before .before .before .before .before .before .before .before .before .representative in
-    let y = c .before .before .before .before .before .before .before .before .before .before .representative2 in
-    let g = c .before .before .and-opp .ensures in
-    (search needs, λ t links k h. and-case t links (a .d) (x .ensures t (k .rows) (omega arith)) (y .ensures t (k .rows) (omega arith)) (and-opp (x .result) (y .result) (c .before .before .before .before .before .before .before .before .before .if1 .left) (c .before .before .before .before .before .before .before .before .if2 .left) (c .before .before .before .before .before .before .before .if3 .left) (c .before .before .before .before .if4 .taken ∙ c .before .before .before .before .before .before .complement .ensures)) (g .1 t links k h))
+    let last = c .before .before .before .before in
+    let test = last .before .before .before in
+    let second = test .before .before .before in
+    let first = second .before in
+    let start = first .before .before .before in (
+      search needs,
+      and-case (start .args .d) (first .representative .ensures) (second .representative2 .ensures)
+          (and-opp _ _ (test .before .before .if1 .left) (test .before .if2 .left) (test .if3 .left) (last .if4 .taken ∙ last .before .before .complement .ensures))
+          (c .before .before .and-opp .ensures .1),
+    )
 
 and-pair-requires : tie.Need-and-pair-requires
 and-pair-requires c κs = search needs
@@ -76,11 +86,16 @@ same-length-4 c = search needs
 
 returns-4 : tie.Need-returns-4
 returns-4 c =
-    let a = c .before .before .before .before .before .before .before .before .before .before .before .before .before .before .args in
-    let x = c .before .before .before .before .before .before .before .before .before .before .before .representative in
-    let y = c .before .before .before .before .before .before .before .before .before .before .representative2 in
-    let g = c .before .before .and-pair .ensures in
-    (search needs, λ t links k h. and-case t links (a .d) (x .ensures t (k .rows) (omega arith)) (y .ensures t (k .rows) (omega arith)) (and-pair (x .result) (y .result) (c .before .before .before .before .before .before .before .before .before .if1 .left) (c .before .before .before .before .before .before .before .before .if2 .left) (c .before .before .before .before .before .before .before .if3 .left) (λ e. c .before .before .before .before .if4 .left (e ∙ sym (c .before .before .before .before .before .before .complement .ensures)))) (g .1 t links k h))
+    let last = c .before .before .before .before in
+    let test = last .before .before .before in
+    let second = test .before .before .before in
+    let first = second .before in
+    let start = first .before .before .before in (
+      search needs,
+      and-case (start .args .d) (first .representative .ensures) (second .representative2 .ensures)
+          (and-pair _ _ (test .before .before .if1 .left) (test .before .if2 .left) (test .if3 .left) (λ e. last .if4 .left (e ∙ sym (last .before .before .complement .ensures))))
+          (c .before .before .and-pair .ensures .1),
+    )
 
 pub and-gate-spec : {M : Type 1} → statement M
 and-gate-spec =

@@ -26,10 +26,9 @@ same-length c = search needs
 returns : tie.Need-returns
 unfolding andTrees
 returns c =
-    let f = c .before .before .before .before .link2 .ensures in (
-      few-kept (few-then {n = 0} (f .0) (few-old (c .before .given .ensures))) (c .two .ensures),
-      λ t links k h.
-          emits-two (f .1 t links k (omega arith) (h .x) (h .x)) (emits-old _ _ 0 (c .before .given .ensures)) (c .two .ensures),
+    let down = c .before .before .before .before in (
+      few-kept (few-then {n = 0} (down .link2 .ensures .0) (few-old (c .before .given .ensures))) (c .two .ensures),
+      λ t links k h. emits-two (down .link2 .ensures .1 t links k (omega arith) (h .x) (h .x)) (emits-old _ _ 0 (c .before .given .ensures)) (c .two .ensures),
     )
 
 pub and-nil-spec : {M : Type 1} → statement M

@@ -33,15 +33,17 @@ same-length c = search needs
 
 returns : tie.Need-returns
 returns c =
-    let f = c .before .before .before .before .before .before .before .before .before .before .before .subst2 .ensures in
-    let g = c .before .before .before .before .before .before .before .subst22 .ensures in
-    let i = c .before .before .before .subst23 .ensures in
-    let x = c .before .before .before .before .before .before .before .before .before .before .before .before .before .before .complement .ensures in
-    let y = c .before .before .before .before .before .before .before .before .before .before .before .before .before .complement2 .ensures in (
-      few-kept (few-then (few-then (f .0) (g .0)) (i .0)) (c .three .ensures),
+    let third = c .before .before .before in
+    let second = third .before .before .before .before in
+    let first = second .before .before .before .before in
+    let x = first .before .before .before .complement .ensures in
+    let y = first .before .before .complement2 .ensures in (
+      few-kept (few-then (few-then (first .subst2 .ensures .0) (second .subst22 .ensures .0)) (third .subst23 .ensures .0)) (c .three .ensures),
       λ t links k h.
           emits-all
-          (then (f .1 t links k (h .x) (h .x)) (then (g .1 t links k (h .y) (h .y)) (then (rw (x, y) at (i .1 t links k (omega (arith, x)) (omega (arith, y)))) none)))
+          (then (first .subst2 .ensures .1 t links k (h .x) (h .x))
+          (then (second .subst22 .ensures .1 t links k (h .y) (h .y))
+          (then (rw (x, y) at (third .subst23 .ensures .1 t links k (omega (arith, x)) (omega (arith, y)))) none)))
           (c .three .ensures),
     )
 

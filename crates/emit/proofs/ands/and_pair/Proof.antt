@@ -1,13 +1,14 @@
--- A gate that represents itself has its clauses, any other two links to the gate of its key, which is done.
-use mathlib.Core.Path.{sym, _∙_}
-use mathlib.Core.Path.{_≡_}
+-- A gate that represents itself has its clauses, any other two links to the gate of its key, which is done (`hit-done`).
+use mathlib.Core.Path.{_≡_, sym, _∙_}
 use Prim.Native.Nat.{_<_}
-use lib.ListN.{length}
 use native.Mathlib.Omega.{arith}
+use lib.ListN.{length}
+use borrow.Author.Tests.{eq-eqb, ne-eqb}
 use Rattle.model.specs.Nets.{netOf}
 use Rattle.fold_laws.specs.Table.{repOf}
+use Rattle.emit_laws.specs.CaseTrees.{andTrees}
 use Rattle.emit.proofs.EmitLaws.{few-then, few-kept, emits-two}
-use Rattle.emit.proofs.CaseLaws.{and-new, and-hit, hit-done}
+use Rattle.emit.proofs.CaseLaws.{hit-done}
 use borrow.Author.Needs.{needs}
 use Rattle.emit.proofs.ands.and_pair.Statement.{statement}
 use Rattle.emit.proofs.ands.and_pair.Tie as tie
@@ -29,11 +30,14 @@ same-length : tie.Need-same-length
 same-length c = search needs
 
 returns : tie.Need-returns
+unfolding andTrees
 returns c =
-    let a = c .before .before .before .before .before .before .before .before .before .args in
-    let g = c .before .before .and-own .ensures in
-    let r = c .before .before .before .before .before .before .representative .ensures in
-    (search needs, λ t links k h. and-new t links (a .d) (sym (r t (k .rows) (omega arith)) ∙ c .before .before .before .before .if1 .taken) (g .1 t links k h))
+    let own = c .before .before in
+    let test = own .before .before in
+    let known = test .before .before in
+    let start = known .before .before .before in
+    let n = start .args .d .n in
+    (search needs, λ t links k h. rw (eq-eqb (repOf t n) n (sym (known .representative .ensures t (k .rows) (omega arith)) ∙ test .if1 .taken)) (own .and-own .ensures .1 t links k h))
 
 cast-u : tie.Need-cast-u
 cast-u c = search needs
@@ -51,17 +55,21 @@ same-length-2 : tie.Need-same-length-2
 same-length-2 c = search needs
 
 returns-2 : tie.Need-returns-2
+unfolding andTrees
 returns-2 c =
-    let a = c .before .before .before .before .before .before .before .before .before .before .before .before .before .before .args in
-    let r = c .before .before .before .before .before .before .before .before .before .before .before .representative in
-    let f = c .before .before .before .before .before .before .before .and-down .ensures in
-    let g = c .before .before .before .and-up .ensures in (
-      few-kept (few-then (f .0) (g .0)) (c .two .ensures),
+    let up = c .before .before .before in
+    let down = up .before .before .before .before in
+    let test = down .before .before in
+    let known = test .before .before in
+    let start = known .before .before .before in
+    let d = start .args .d in (
+      few-kept (few-then (down .and-down .ensures .0) (up .and-up .ensures .0)) (c .two .ensures),
       λ t links k h.
-          let e = r .ensures t (k .rows) (omega arith) in
-          let n : repOf t (a .d .n) ≡ a .d .n → ⊥ = λ z. c .before .before .before .before .before .before .before .before .before .if1 .left (e ∙ z) in
-          let u : netOf (r .result) < length links = rw e (hit-done (a .d) k h n) in
-          and-hit t links (a .d) n (emits-two (rw e at (f .1 t links k h u)) (rw e at (g .1 t links k h u)) (c .two .ensures)),
+          let e = known .representative .ensures t (k .rows) (omega arith) in
+          let other : repOf t (d .n) ≡ d .n → ⊥ = λ z. test .if1 .left (e ∙ z) in
+          let done : netOf (known .representative .result) < length links = rw e (hit-done d k h other) in
+          rw (ne-eqb (repOf t (d .n)) (d .n) other)
+          (emits-two (rw e at (down .and-down .ensures .1 t links k h done)) (rw e at (up .and-up .ensures .1 t links k h done)) (c .two .ensures)),
     )
 
 pub and-pair-spec : {M : Type 1} → statement M

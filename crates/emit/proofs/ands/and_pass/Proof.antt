@@ -1,4 +1,4 @@
--- The links of the gate and of its complement, over complemented operands.
+-- The links of the gate and of its complement, the second over complemented operands.
 use native.Mathlib.Omega.{arith}
 use Rattle.emit_laws.specs.CaseTrees.{andTrees}
 use Rattle.emit.proofs.EmitLaws.{few-then, few-kept, emits-two}
@@ -35,16 +35,15 @@ same-length c = search needs
 returns : tie.Need-returns
 unfolding andTrees
 returns c =
-    let f = c .before .before .before .before .before .before .before .link2 .ensures in
-    let g = c .before .before .before .link22 .ensures in
-    let n = c .before .before .before .before .before .before .before .before .before .before .before .complement .ensures in
-    let x = c .before .before .before .before .before .before .before .before .before .before .complement2 .ensures in
-    let y = c .before .before .before .before .before .before .before .before .before .complement3 .ensures in (
-      few-kept (few-then (f .0) (g .0)) (c .two .ensures),
+    let up = c .before .before .before in
+    let down = up .before .before .before .before in
+    let n = down .before .before .before .before .complement .ensures in
+    let x = down .before .before .before .complement2 .ensures in
+    let y = down .before .before .complement3 .ensures in (
+      few-kept (few-then (down .link2 .ensures .0) (up .link22 .ensures .0)) (c .two .ensures),
       λ t links k h.
-          emits-two (f .1 t links k (omega arith) (h .y) (h .y))
-          (rw (n, x, y) at (g .1 t links k (omega (arith, n)) (omega (arith, x)) (omega (arith, y))))
-          (c .two .ensures),
+          emits-two (down .link2 .ensures .1 t links k (omega arith) (h .y) (h .y))
+          (rw (n, x, y) at (up .link22 .ensures .1 t links k (omega (arith, n)) (omega (arith, x)) (omega (arith, y)))) (c .two .ensures),
     )
 
 pub and-pass-spec : {M : Type 1} → statement M

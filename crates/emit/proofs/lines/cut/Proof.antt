@@ -1,10 +1,8 @@
 -- The line of the resolution, behind the lines that stand (`emits-line`).
-use Prim.Native.Nat.{_+_}
-use mathlib.Core.Path.{_≡_, refl, sym, ap, _∙_}
+use mathlib.Core.Path.{refl, ap}
 use native.Mathlib.Omega.{arith}
 use lib.ListN.{length}
 use Rattle.model.specs.Frames.{Frame, lineOf}
-use Rattle.model.specs.Limits.{proofLineBytes}
 use Rattle.emit_laws.specs.Replay.{pivot}
 use Rattle.emit.proofs.LineLaws.{line-bytes, emits-line}
 use borrow.Author.Needs.{needs}

@@ -1,5 +1,4 @@
 -- One substitution, and a second in its clause where the literals differ.
-use native.Mathlib.Omega.{arith}
 use Rattle.fold_laws.specs.Table.{repOf}
 use Rattle.emit_laws.specs.Trees.Tree.{old}
 use Rattle.emit_laws.specs.Gates.{linkOf}

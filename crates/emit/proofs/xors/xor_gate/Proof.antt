@@ -1,5 +1,4 @@
 -- The tests find the case of the definition.
-use native.Mathlib.Omega.{arith}
 use Rattle.emit.proofs.CaseLaws.{xor-pass, xor-same, xor-pair, xor-case}
 use borrow.Author.Needs.{needs}
 use Rattle.emit.proofs.xors.xor_gate.Statement.{statement}
@@ -25,11 +24,14 @@ same-length c = search needs
 
 returns : tie.Need-returns
 returns c =
-    let a = c .before .before .before .before .before .before .before .before .before .args in
-    let x = c .before .before .before .before .before .before .representative in
-    let y = c .before .before .before .before .before .representative2 in
-    let g = c .before .before .xor-pass .ensures in
-    (search needs, λ t links k h. xor-case t links (a .d) (x .ensures t (k .rows) (omega arith)) (y .ensures t (k .rows) (omega arith)) (xor-pass (x .result) (y .result) (c .before .before .before .before .if1 .taken)) (g .1 t links k h))
+    let second = c .before .before .before .before .before in
+    let first = second .before in
+    let start = first .before .before .before in (
+      search needs,
+      xor-case (start .args .d) (first .representative .ensures) (second .representative2 .ensures)
+          (xor-pass _ _ (c .before .before .before .before .if1 .taken))
+          (c .before .before .xor-pass .ensures .1),
+    )
 
 xor-same-requires : tie.Need-xor-same-requires
 xor-same-requires c κs = search needs
@@ -39,11 +41,14 @@ same-length-2 c = search needs
 
 returns-2 : tie.Need-returns-2
 returns-2 c =
-    let a = c .before .before .before .before .before .before .before .before .before .before .args in
-    let x = c .before .before .before .before .before .before .before .representative in
-    let y = c .before .before .before .before .before .before .representative2 in
-    let g = c .before .before .xor-same .ensures in
-    (search needs, λ t links k h. xor-case t links (a .d) (x .ensures t (k .rows) (omega arith)) (y .ensures t (k .rows) (omega arith)) (xor-same (x .result) (y .result) (c .before .before .before .before .before .if1 .left) (c .before .before .before .before .if2 .taken)) (g .1 t links k h))
+    let second = c .before .before .before .before .before .before in
+    let first = second .before in
+    let start = first .before .before .before in (
+      search needs,
+      xor-case (start .args .d) (first .representative .ensures) (second .representative2 .ensures)
+          (xor-same _ _ (c .before .before .before .before .before .if1 .left) (c .before .before .before .before .if2 .taken))
+          (c .before .before .xor-same .ensures .1),
+    )
 
 xor-pair-requires : tie.Need-xor-pair-requires
 xor-pair-requires c κs = search needs
@@ -53,11 +58,14 @@ same-length-3 c = search needs
 
 returns-3 : tie.Need-returns-3
 returns-3 c =
-    let a = c .before .before .before .before .before .before .before .before .before .before .args in
-    let x = c .before .before .before .before .before .before .before .representative in
-    let y = c .before .before .before .before .before .before .representative2 in
-    let g = c .before .before .xor-pair .ensures in
-    (search needs, λ t links k h. xor-case t links (a .d) (x .ensures t (k .rows) (omega arith)) (y .ensures t (k .rows) (omega arith)) (xor-pair (x .result) (y .result) (c .before .before .before .before .before .if1 .left) (c .before .before .before .before .if2 .left)) (g .1 t links k h))
+    let second = c .before .before .before .before .before .before in
+    let first = second .before in
+    let start = first .before .before .before in (
+      search needs,
+      xor-case (start .args .d) (first .representative .ensures) (second .representative2 .ensures)
+          (xor-pair _ _ (c .before .before .before .before .before .if1 .left) (c .before .before .before .before .if2 .left))
+          (c .before .before .xor-pair .ensures .1),
+    )
 
 pub xor-gate-spec : {M : Type 1} → statement M
 xor-gate-spec =

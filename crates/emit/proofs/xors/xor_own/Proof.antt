@@ -1,4 +1,4 @@
--- The clauses one after the other, for each pair of signs.
+-- The clauses one after the other, one for each pair of signs.
 use mathlib.Core.Path.{_∙_}
 use native.Mathlib.Omega.{arith}
 use Rattle.emit.proofs.EmitLaws.{few-then, few-kept, room-then, none, then, emits-all}
@@ -28,10 +28,13 @@ subst2-requires-3 c κs = search needs
 
 subst2-requires-4 : tie.Need-subst2-requires-4
 subst2-requires-4 c κs =
-    let s = c .before .before .before .before .before .before .before .before .before .before .before .before .before .before .before .before .before in (
-      room-then (s .pre .0) (few-then (few-then (c .before .before .before .before .before .before .before .before .before .before .before .subst2 .ensures .0) (c .before .before .before .before .before .before .before .subst22 .ensures .0)) (c .before .before .before .subst23 .ensures .0))
-      (c .before .before .proof3 .given ∙ c .before .before .before .before .before .before .proof2 .given ∙ c .before .before .before .before .before .before .before .before .before .before .proof .given) (omega arith),
-      s .pre .1,
+    let third = c .before .before .before in
+    let second = third .before .before .before .before in
+    let first = second .before .before .before .before in
+    let start = first .before .before .before .before .before .before in (
+      room-then (start .pre .0) (few-then (few-then (first .subst2 .ensures .0) (second .subst22 .ensures .0)) (third .subst23 .ensures .0))
+          (c .before .before .proof3 .given ∙ third .before .before .before .proof2 .given ∙ second .before .before .before .proof .given) (omega arith),
+      start .pre .1,
     )
 
 four-requires : tie.Need-four-requires
@@ -42,19 +45,19 @@ same-length c = search needs
 
 returns : tie.Need-returns
 returns c =
-    let f = c .before .before .before .before .before .before .before .before .before .before .before .before .before .before .before .subst2 .ensures in
-    let g = c .before .before .before .before .before .before .before .before .before .before .before .subst22 .ensures in
-    let i = c .before .before .before .before .before .before .before .subst23 .ensures in
-    let j = c .before .before .before .subst24 .ensures in
-    let x = c .before .before .before .before .before .before .before .before .before .before .before .before .before .before .before .before .before .before .complement .ensures in
-    let y = c .before .before .before .before .before .before .before .before .before .before .before .before .before .before .before .before .before .complement2 .ensures in (
-      few-kept (few-then (few-then (few-then (f .0) (g .0)) (i .0)) (j .0)) (c .four .ensures),
+    let fourth = c .before .before .before in
+    let third = fourth .before .before .before .before in
+    let second = third .before .before .before .before in
+    let first = second .before .before .before .before in
+    let x = first .before .before .before .complement .ensures in
+    let y = first .before .before .complement2 .ensures in (
+      few-kept (few-then (few-then (few-then (first .subst2 .ensures .0) (second .subst22 .ensures .0)) (third .subst23 .ensures .0)) (fourth .subst24 .ensures .0)) (c .four .ensures),
       λ t links k h.
           emits-all
-          (then (f .1 t links k (h .x) (h .y))
-          (then (rw y at (g .1 t links k (h .x) (omega (arith, y))))
-          (then (rw x at (i .1 t links k (omega (arith, x)) (h .y)))
-          (then (rw (x, y) at (j .1 t links k (omega (arith, x)) (omega (arith, y)))) none))))
+          (then (first .subst2 .ensures .1 t links k (h .x) (h .y))
+          (then (rw y at (second .subst22 .ensures .1 t links k (h .x) (omega (arith, y))))
+          (then (rw x at (third .subst23 .ensures .1 t links k (omega (arith, x)) (h .y)))
+          (then (rw (x, y) at (fourth .subst24 .ensures .1 t links k (omega (arith, x)) (omega (arith, y)))) none))))
           (c .four .ensures),
     )
 

@@ -1,4 +1,4 @@
--- The links of the gate and of its complement, over complemented operands.
+-- The links of the gate and of its complement, the second over a complemented operand.
 use native.Mathlib.Omega.{arith}
 use Rattle.emit_laws.specs.CaseTrees.{xorTrees}
 use Rattle.emit.proofs.EmitLaws.{few-then, few-kept, emits-two}
@@ -32,15 +32,14 @@ same-length c = search needs
 returns : tie.Need-returns
 unfolding xorTrees
 returns c =
-    let f = c .before .before .before .before .before .before .before .link2 .ensures in
-    let g = c .before .before .before .link22 .ensures in
-    let n = c .before .before .before .before .before .before .before .before .before .before .complement .ensures in
-    let y = c .before .before .before .before .before .before .before .before .before .complement2 .ensures in (
-      few-kept (few-then (f .0) (g .0)) (c .two .ensures),
+    let up = c .before .before .before in
+    let down = up .before .before .before .before in
+    let n = down .before .before .before .complement .ensures in
+    let y = down .before .before .complement2 .ensures in (
+      few-kept (few-then (down .link2 .ensures .0) (up .link22 .ensures .0)) (c .two .ensures),
       λ t links k h.
-          emits-two (f .1 t links k (omega arith) (h .x) (h .y))
-          (rw (n, y) at (g .1 t links k (omega (arith, n)) (h .x) (omega (arith, y))))
-          (c .two .ensures),
+          emits-two (down .link2 .ensures .1 t links k (omega arith) (h .x) (h .y))
+          (rw (n, y) at (up .link22 .ensures .1 t links k (omega (arith, n)) (h .x) (omega (arith, y)))) (c .two .ensures),
     )
 
 pub xor-pass-spec : {M : Type 1} → statement M

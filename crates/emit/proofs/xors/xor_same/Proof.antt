@@ -44,18 +44,18 @@ same-length c = search needs
 returns : tie.Need-returns
 unfolding xorTrees
 returns c =
-    let f = c .before .before .before .before .before .before .before .before .before .before .before .before .before .subst2 .ensures in
-    let g = c .before .before .before .before .before .before .before .before .before .subst22 .ensures in
-    let i = c .before .before .before .before .cut .ensures in
-    let x = c .before .before .before .before .before .before .before .before .before .before .before .before .before .before .before .before .complement .ensures in
-    let y = c .before .before .before .before .before .before .before .before .before .before .before .before .before .before .before .complement2 .ensures in (
-      few-kept (few-then {n = 0} (few-then (few-then (f .0) (g .0)) (i .0)) (few-old (c .before .given .ensures))) (c .two .ensures),
+    let down = c .before .before .before .before in
+    let fourth = down .before .before .before .before .before in
+    let first = fourth .before .before .before .before in
+    let x = first .before .before .before .complement .ensures in
+    let y = first .before .before .complement2 .ensures in (
+      few-kept (few-then {n = 0} (few-then (few-then (first .subst2 .ensures .0) (fourth .subst22 .ensures .0)) (down .cut .ensures .0)) (few-old (c .before .given .ensures)))
+          (c .two .ensures),
       λ t links k h.
           emits-two
-          (emits-cut (f .1 t links k (h .x) (h .y)) (rw (x, y) at (g .1 t links k (omega (arith, x)) (omega (arith, y))))
-          (rw (c .before .before .before .before .before .representative .ensures t (k .rows) (omega arith)) at (i .1)))
-          (emits-old _ _ 0 (c .before .given .ensures))
-          (c .two .ensures),
+          (emits-cut (first .subst2 .ensures .1 t links k (h .x) (h .y))
+          (rw (x, y) at (fourth .subst22 .ensures .1 t links k (omega (arith, x)) (omega (arith, y)))) (rw (down .before .representative .ensures t (k .rows) (omega arith)) at (down .cut .ensures .1)))
+          (emits-old _ _ 0 (c .before .given .ensures)) (c .two .ensures),
     )
 
 pub xor-same-spec : {M : Type 1} → statement M

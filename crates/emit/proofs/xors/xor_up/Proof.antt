@@ -33,47 +33,62 @@ cut-requires c κs = search needs
 
 subst2-requires-2 : tie.Need-subst2-requires-2
 subst2-requires-2 c κs =
-    let s = c .before .before .before .before .before .before .before .before .before .before .before .before .before .before .before in
-    (room-then (s .pre .0) (few-then (c .before .before .before .before .before .before .before .before .subst2 .ensures .0) (c .before .before .before .cut .ensures .0)) (c .before .before .proof2 .given ∙ c .before .before .before .before .before .before .before .proof .given) (omega arith), s .pre .1)
+    let left = c .before .before .before in
+    let second = left .before .before .before .before .before in
+    let start = second .before .before .before .before .before .before .before in (
+      room-then (start .pre .0) (few-then (second .subst2 .ensures .0) (left .cut .ensures .0)) (c .before .before .proof2 .given ∙ left .before .before .before .before .proof .given) (omega arith),
+      start .pre .1,
+    )
 
 number-at-requires-2 : tie.Need-number-at-requires-2
 number-at-requires-2 c κs =
-    let s = c .before .before .before .before .before .before .before .before .before .before .before .before .before .before .before .before .before .before .before in
-    (s .pre .1, s .pre .2, omega arith)
+    let start = c .before .before .before .before .before .before .before .before .before .before .before .before .before .before .before .before .before .before .before in
+    (start .pre .1, start .pre .2, omega arith)
 
 cut-requires-2 : tie.Need-cut-requires-2
 cut-requires-2 c κs =
-    room-then (c .before .before .before .before .before .before .before .before .before .before .before .before .before .before .before .before .before .before .before .before .pre .0) (few-then (few-then (c .before .before .before .before .before .before .before .before .before .before .before .before .before .subst2 .ensures .0) (c .before .before .before .before .before .before .before .before .cut .ensures .0)) (c .before .before .before .before .subst22 .ensures .0))
-    (c .before .before .before .proof3 .given ∙ c .before .before .before .before .before .before .before .proof2 .given ∙ c .before .before .before .before .before .before .before .before .before .before .before .before .proof .given) (omega arith)
+    let third = c .before .before .before .before in
+    let left = third .before .before .before .before in
+    let second = left .before .before .before .before .before in
+    let start = second .before .before .before .before .before .before .before in
+    room-then (start .pre .0) (few-then (few-then (second .subst2 .ensures .0) (left .cut .ensures .0)) (third .subst22 .ensures .0))
+    (c .before .before .before .proof3 .given ∙ third .before .before .before .proof2 .given ∙ left .before .before .before .before .proof .given) (omega arith)
 
 representative-requires-2 : tie.Need-representative-requires-2
 representative-requires-2 c κs = search needs
 
 cut-requires-3 : tie.Need-cut-requires-3
 cut-requires-3 c κs =
-    room-then (c .before .before .before .before .before .before .before .before .before .before .before .before .before .before .before .before .before .before .before .before .before .before .before .before .before .pre .0) (few-then (few-then (few-then (c .before .before .before .before .before .before .before .before .before .before .before .before .before .before .before .before .before .before .subst2 .ensures .0) (c .before .before .before .before .before .before .before .before .before .before .before .before .before .cut .ensures .0)) (c .before .before .before .before .before .before .before .before .before .subst22 .ensures .0)) (c .before .before .before .before .cut2 .ensures .0))
-    (c .before .before .before .proof4 .given ∙ c .before .before .before .before .before .before .before .before .proof3 .given ∙ c .before .before .before .before .before .before .before .before .before .before .before .before .proof2 .given ∙ c .before .before .before .before .before .before .before .before .before .before .before .before .before .before .before .before .before .proof .given) (omega arith)
+    let right = c .before .before .before .before in
+    let third = right .before .before .before .before .before in
+    let left = third .before .before .before .before in
+    let second = left .before .before .before .before .before in
+    let start = second .before .before .before .before .before .before .before in
+    room-then (start .pre .0) (few-then (few-then (few-then (second .subst2 .ensures .0) (left .cut .ensures .0)) (third .subst22 .ensures .0)) (right .cut2 .ensures .0))
+    (c .before .before .before .proof4 .given ∙ right .before .before .before .before .proof3 .given ∙ third .before .before .before .proof2 .given ∙ left .before .before .before .before .proof .given) (omega arith)
 
 same-length : tie.Need-same-length
 same-length c =
-    c .before .proof5 .given ∙ c .before .before .before .before .before .before .proof4 .given ∙ c .before .before .before .before .before .before .before .before .before .before .before .proof3 .given ∙ c .before .before .before .before .before .before .before .before .before .before .before .before .before .before .before .proof2 .given ∙ c .before .before .before .before .before .before .before .before .before .before .before .before .before .before .before .before .before .before .before .before .proof .given
+    let right = c .before .before .before .before .before .before .before in
+    let third = right .before .before .before .before .before in
+    let left = third .before .before .before .before in
+    c .before .proof5 .given ∙ c .before .before .before .before .before .before .proof4 .given ∙ right .before .before .before .before .proof3 .given ∙ third .before .before .before .proof2 .given ∙ left .before .before .before .before .proof .given
 
 returns : tie.Need-returns
 returns c =
-    let f = c .before .before .before .before .before .before .before .before .before .before .before .before .before .before .before .before .before .before .before .before .before .subst2 .ensures in
-    let i = c .before .before .before .before .before .before .before .before .before .before .before .before .before .before .before .before .cut .ensures in
-    let g = c .before .before .before .before .before .before .before .before .before .before .before .before .subst22 .ensures in
-    let j = c .before .before .before .before .before .before .before .cut2 .ensures in
-    let m = c .before .before .cut3 .ensures in
-    let x = c .before .before .before .before .before .before .before .before .before .before .before .before .before .before .before .before .before .before .before .before .before .before .before .before .complement .ensures in
-    let y = c .before .before .before .before .before .before .before .before .before .before .before .before .before .before .before .before .before .before .before .before .before .before .before .complement2 .ensures in (
-      few-then (few-then (few-then (few-then (f .0) (i .0)) (g .0)) (j .0)) (m .0),
+    let right = c .before .before .before .before .before .before .before in
+    let third = right .before .before .before .before .before in
+    let left = third .before .before .before .before in
+    let second = left .before .before .before .before .before in
+    let x = second .before .before .before .complement .ensures in
+    let y = second .before .before .complement2 .ensures in (
+      few-then (few-then (few-then (few-then (second .subst2 .ensures .0) (left .cut .ensures .0)) (third .subst22 .ensures .0)) (right .cut2 .ensures .0)) (c .before .before .cut3 .ensures .0),
       λ t links k h u.
-          let q = c .before .before .before .before .before .before .before .before .before .before .before .before .before .before .before .before .before .before .before .before .before .before .before .before .before .representative .ensures t (k .rows) (omega arith) in
+          let q = second .before .before .before .before .representative .ensures t (k .rows) (omega arith) in
           emits-cut
-          (emits-cut-left (rw y at (f .1 t links k (h .x) (omega (arith, y)))) (rw (c .before .before .before .before .before .before .before .before .before .before .before .before .before .before .before .before .before .number-at .ensures links (k .numbers) u, q) at (i .1)))
-          (emits-cut-right (rw x at (g .1 t links k (omega (arith, x)) (h .y))) (rw (c .before .before .before .before .before .before .before .before .number-at2 .ensures links (k .numbers) u, q) at (j .1)))
-          (rw (c .before .before .before .representative2 .ensures t (k .rows) (omega arith)) at (m .1)),
+          (emits-cut-left (rw y at (second .subst2 .ensures .1 t links k (h .x) (omega (arith, y)))) (rw (left .before .number-at .ensures links (k .numbers) u, q) at (left .cut .ensures .1)))
+          (emits-cut-right (rw x at (third .subst22 .ensures .1 t links k (omega (arith, x)) (h .y))) (rw (right .before .number-at2 .ensures links (k .numbers) u, q) at (right .cut2 .ensures .1)))
+          (rw (c .before .before .before .representative2 .ensures t (k .rows) (omega arith)) at (c .before .before .cut3 .ensures .1)),
     )
 
 pub xor-up-spec : {M : Type 1} → statement M
