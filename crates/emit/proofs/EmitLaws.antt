@@ -30,6 +30,9 @@ pub few-kept : {s r : Derived} {n : ℕ} {k : Kept} {linked : Bool} {ns : List �
     → k ≡ record { lines = r .lines; clauses = r .clauses; linked = linked; numbers = ns } → FewKept s n k
 few-kept f e = rw e (record { lines = f .lines; clauses = f .clauses })
 
+pub few-more : {s : Derived} {n m : ℕ} {k : Kept} → FewKept s n k → n ≤ m → FewKept s m k
+few-more f h = record { lines = omega (arith, f .lines); clauses = omega (arith, f .clauses) }
+
 -- the room that is left, in as many bytes
 pub room-then : {bytes more n m : ℕ} {s a : Derived} {l : ℕ} → Room bytes s more → Few s n a → l ≡ bytes → n + m ≤ more → Room l a m
 room-then r f e h = record { bytes-for-all = omega (arith, r .bytes-for-all, f .lines); numbers = omega (arith, r .numbers, f .clauses) }

@@ -2,7 +2,9 @@
 use mathlib.Core.Path.{sym, _∙_}
 use mathlib.Core.Bool.{or-true}
 use mathlib.Core.Logic.{⊎-elim}
+use native.Mathlib.Omega.{arith}
 use borrow.Author.Tests.{eq-eqb}
+use Rattle.emit.proofs.EmitLaws.{few-more}
 use Rattle.emit.proofs.CaseLaws.{and-nil, and-pass, and-opp, and-pair, and-case}
 use borrow.Author.Needs.{needs}
 use Rattle.emit.proofs.ands.and_gate.Statement.{statement}
@@ -33,7 +35,7 @@ returns c =
     let second = c .before .before .before .before .before in
     let first = second .before in
     let start = first .before .before .before in (
-      search needs,
+      few-more (c .before .before .and-nil .ensures .0) (omega arith),
       and-case (start .args .d) (first .representative .ensures) (second .representative2 .ensures)
           (and-nil _ _ (c .before .before .before .before .if1 .taken))
           (c .before .before .and-nil .ensures .1),
@@ -50,7 +52,7 @@ returns-2 c =
     let second = c .before .before .before .before .before .before in
     let first = second .before in
     let start = first .before .before .before in (
-      search needs,
+      few-more (c .before .before .and-pass .ensures .0) (omega arith),
       and-case (start .args .d) (first .representative .ensures) (second .representative2 .ensures)
           (and-pass _ _ (c .before .before .before .before .before .if1 .left) (⊎-elim (λ w. rw (eq-eqb _ 1 (w .taken))) (λ w. rw (w .1 .taken, or-true)) (c .before .before .before .before .if2 .came)))
           (c .before .before .and-pass .ensures .1),
@@ -72,7 +74,7 @@ returns-3 c =
     let second = test .before .before .before in
     let first = second .before in
     let start = first .before .before .before in (
-      search needs,
+      few-more (c .before .before .and-opp .ensures .0) (omega arith),
       and-case (start .args .d) (first .representative .ensures) (second .representative2 .ensures)
           (and-opp _ _ (test .before .before .if1 .left) (test .before .if2 .left) (test .if3 .left) (last .if4 .taken ∙ last .before .before .complement .ensures))
           (c .before .before .and-opp .ensures .1),
@@ -91,7 +93,7 @@ returns-4 c =
     let second = test .before .before .before in
     let first = second .before in
     let start = first .before .before .before in (
-      search needs,
+      few-more (c .before .before .and-pair .ensures .0) (omega arith),
       and-case (start .args .d) (first .representative .ensures) (second .representative2 .ensures)
           (and-pair _ _ (test .before .before .if1 .left) (test .before .if2 .left) (test .if3 .left) (λ e. last .if4 .left (e ∙ sym (last .before .before .complement .ensures))))
           (c .before .before .and-pair .ensures .1),

@@ -1,4 +1,6 @@
 -- The tests find the case of the definition.
+use native.Mathlib.Omega.{arith}
+use Rattle.emit.proofs.EmitLaws.{few-more}
 use Rattle.emit.proofs.CaseLaws.{xor-pass, xor-same, xor-pair, xor-case}
 use borrow.Author.Needs.{needs}
 use Rattle.emit.proofs.xors.xor_gate.Statement.{statement}
@@ -27,7 +29,7 @@ returns c =
     let second = c .before .before .before .before .before in
     let first = second .before in
     let start = first .before .before .before in (
-      search needs,
+      few-more (c .before .before .xor-pass .ensures .0) (omega arith),
       xor-case (start .args .d) (first .representative .ensures) (second .representative2 .ensures)
           (xor-pass _ _ (c .before .before .before .before .if1 .taken))
           (c .before .before .xor-pass .ensures .1),
@@ -44,7 +46,7 @@ returns-2 c =
     let second = c .before .before .before .before .before .before in
     let first = second .before in
     let start = first .before .before .before in (
-      search needs,
+      few-more (c .before .before .xor-same .ensures .0) (omega arith),
       xor-case (start .args .d) (first .representative .ensures) (second .representative2 .ensures)
           (xor-same _ _ (c .before .before .before .before .before .if1 .left) (c .before .before .before .before .if2 .taken))
           (c .before .before .xor-same .ensures .1),
@@ -61,7 +63,7 @@ returns-3 c =
     let second = c .before .before .before .before .before .before in
     let first = second .before in
     let start = first .before .before .before in (
-      search needs,
+      few-more (c .before .before .xor-pair .ensures .0) (omega arith),
       xor-case (start .args .d) (first .representative .ensures) (second .representative2 .ensures)
           (xor-pair _ _ (c .before .before .before .before .before .if1 .left) (c .before .before .before .before .if2 .left))
           (c .before .before .xor-pair .ensures .1),

@@ -7,7 +7,7 @@ use borrow.Author.Tests.{eq-eqb, ne-eqb}
 use Rattle.model.specs.Nets.{netOf}
 use Rattle.fold_laws.specs.Table.{repOf}
 use Rattle.emit_laws.specs.CaseTrees.{xorTrees}
-use Rattle.emit.proofs.EmitLaws.{few-then, few-kept, emits-two}
+use Rattle.emit.proofs.EmitLaws.{few-then, few-kept, few-more, emits-two}
 use Rattle.emit.proofs.CaseLaws.{hit-done}
 use borrow.Author.Needs.{needs}
 use Rattle.emit.proofs.xors.xor_pair.Statement.{statement}
@@ -36,8 +36,10 @@ returns c =
     let test = own .before .before in
     let known = test .before .before in
     let start = known .before .before .before in
-    let n = start .args .d .n in
-    (search needs, λ t links k h. rw (eq-eqb (repOf t n) n (sym (known .representative .ensures t (k .rows) (omega arith)) ∙ test .if1 .taken)) (own .xor-own .ensures .1 t links k h))
+    let n = start .args .d .n in (
+      few-more (own .xor-own .ensures .0) (omega arith),
+      λ t links k h. rw (eq-eqb (repOf t n) n (sym (known .representative .ensures t (k .rows) (omega arith)) ∙ test .if1 .taken)) (own .xor-own .ensures .1 t links k h),
+    )
 
 cast-u : tie.Need-cast-u
 cast-u c = search needs
