@@ -11,13 +11,13 @@ use borrow.Author.Tests.{eqb-true, eqb-false, ne-eqb}
 use Rattle.model.specs.Limits.{linesPerGate}
 use Rattle.model.specs.Nets.{netOf}
 use Rattle.model.specs.Clauses.{Clause, neg}
-use Rattle.laws.specs.Bools.{by-cond, below-or-at}
+use Rattle.laws.specs.Bools.{by-cond}
 use Rattle.fold_laws.specs.Signs.{signed-back}
 use Rattle.fold_laws.specs.Cases.{AndCase, AndIs, andMade, XorCase, XorIs, xorMade}
 use Rattle.fold_laws.specs.Cases.AndCase.{nil, pass, opp, pair}
 use Rattle.fold_laws.specs.Cases.XorCase.{pass, same, pair}
 use Rattle.fold_laws.specs.Table.{Entry, repOf}
-use Rattle.fold_laws.specs.Facts.{Laws, Keyed, Stands}
+use Rattle.fold_laws.specs.Facts.{Laws, Keyed, Stands, stands-below}
 use Rattle.emit_laws.specs.Sets.{Same, flat, sets}
 use Rattle.emit_laws.specs.Trees.{Tree, size, sizes, Derives, derives-same, Claim, Gives, Met, All₂}
 use Rattle.emit_laws.specs.Trees.Tree.{old, cut}
@@ -130,10 +130,6 @@ module _ (T : List Entry) (N first : ℕ) (laws : Laws T N) (E : ℕ → ℕ) (K
     abbrev Kept : Bool → Type 0
     Kept o = netOf (R n) < netOf n → Keyed T first o n (R x) (R y) → All₂ (Met K) D (claims o (R n) (R x) (R y))
 
-    -- a representative that is not n is over a net below
-    hit : (R n ≡ n → ⊥) → netOf (R n) < netOf n
-    hit h = below-or-at (netOf (R n)) (netOf n) (omega (arith, laws .down n fits)) (λ p. p) (λ e. absurd (h (laws .fixed n fits e)))
-
     links : {o : Bool} {t u : Tree} → netOf (R n) < netOf n → Gives K t (linkClaim R n) → Gives K u (linkClaim R (neg n))
         → Settled T first K o n (R x) (R y) (t ∷ u ∷ [])
     links h p q = linked h (more p (more q end))
@@ -197,7 +193,7 @@ module _ (T : List Entry) (N first : ℕ) (laws : Laws T N) (E : ℕ → ℕ) (K
         by-cond (Settled T first K false n (R x) (R y)) (eqb (R n) n)
         (λ e. kept (eqb-true (R n) n e) f (more s1 (more s2 (more s3 end))))
         (λ e.
-        let h : netOf (R n) < netOf n = hit (eqb-false (R n) n e) in
+        let h : netOf (R n) < netOf n = stands-below laws n fits (eqb-false (R n) n e) in
         let u = and-leaves (d h f) in
         hits h (omega (arith, f .above))
         (implyAnd-ok n (R n) (R x) (R y) s1 s2 (u .three) (i .1) (omega (arith, f .above)) (f .above))
@@ -252,7 +248,7 @@ module _ (T : List Entry) (N first : ℕ) (laws : Laws T N) (E : ℕ → ℕ) (K
         by-cond (Settled T first K true n (R x) (R y)) (eqb (R n) n)
         (λ e. kept (eqb-true (R n) n e) f (more zz (more zo (more oz (more oo end)))))
         (λ e.
-        let h : netOf (R n) < netOf n = hit (eqb-false (R n) n e) in
+        let h : netOf (R n) < netOf n = stands-below laws n fits (eqb-false (R n) n e) in
         let u = xor-leaves (d h f) in
         hits h (omega (arith, f .above))
         (implyXor-ok n (R n) (R x) (R y) zz oo (u .zo) (u .oz) (i .1) (omega (arith, f .above)) (f .above))

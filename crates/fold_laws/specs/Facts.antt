@@ -63,6 +63,11 @@ pub record Facts (t : List Entry) (n : ℕ) (gs : List Gate) : Type 0 where
   pub inputs : (l : ℕ) → netOf l ≤ n → repOf t l ≡ l
   pub gates : GateFacts t (1 + n) (1 + n) gs
 
+-- a literal that does not represent itself stands for a net below
+pub stands-below : {t : List Entry} {N : ℕ} → Laws t N → (l : ℕ) → netOf l < N → (repOf t l ≡ l → ⊥) → netOf (repOf t l) < netOf l
+stands-below {t} laws l h n =
+    below-or-at (netOf (repOf t l)) (netOf l) (omega (arith, laws .down l h)) (λ p. p) (λ e. absurd (n (laws .fixed l h e)))
+
 -- ---- operands
 
 -- a representative over a net below v, with no sign for an XOR

@@ -148,7 +148,7 @@ module _ (w : Fields) (f : Frame) (s : Spells w f) (n : length (w .values) ≡ 4
 
 -- ---- zeros
 
-drop-zeros : (n m : ℕ) → drop n (zeros m) ≡ zeros (m - n)
+pub drop-zeros : (n m : ℕ) → drop n (zeros m) ≡ zeros (m - n)
 drop-zeros zero m = let e : m - 0 ≡ m = omega arith in rw e
 drop-zeros (suc n) zero = let e : 0 - suc n ≡ 0 = omega arith in rw e
 drop-zeros (suc n) (suc m) = let e : suc m - suc n ≡ m - n = omega arith in rw e (drop-zeros n m)
