@@ -3,3 +3,4 @@ pub mod CaseLaws
 pub mod EmitLaws
 pub mod LineLaws
 pub mod SubstLaws
+pub mod NormalLaws
