@@ -1,2 +1,3 @@
 -- The laws; rt itself finds the proof of each function by its place.
 pub mod EmitLaws
+pub mod OutputLaws
