@@ -47,7 +47,18 @@ fn out(work: &[u16], start: usize, proof: &mut [u8], at: Derived, k: u16, x: u16
 
 // One output more: run has the clause ¬w, the next w has its clauses from kw on, and z, the XOR of x and y, from kz on. It gives ¬ of the
 // next w.
-fn next_out(work: &[u16], start: usize, proof: &mut [u8], run: Derived, w: u16, kw: u16, z: u16, kz: u16, x: u16, y: u16) -> Derived
+fn next_out(
+    work: &[u16],
+    start: usize,
+    proof: &mut [u8],
+    run: Derived,
+    w: u16,
+    kw: u16,
+    z: u16,
+    kz: u16,
+    x: u16,
+    y: u16,
+) -> Derived
     requires { ⌜ Room (length (now proof)) run 7 × (start ≤ length (now work)) × (w ≤ highestVariable) × (z ≤ highestVariable) × (kw + 2 ≤ mostClauses) × (kz + 3 ≤ mostClauses) ⌝ }
     ensures few { λ r. ⌜ Few run 7 r ⌝ }
     ensures emits { λ r. ⌜ ((t : List Entry) (links : List (List ℕ)) → Known (now (work .entry)) start t links → netOf x < length links → netOf y < length links
@@ -60,7 +71,15 @@ fn next_out(work: &[u16], start: usize, proof: &mut [u8], run: Derived, w: u16, 
 }
 
 // All outputs, whose z have their clauses from kz on, and the empty clause.
-pub fn outputs(text: &[u8], pair: Pair, work: &[u16], start: usize, proof: &mut [u8], at: Derived, kz: u16) -> Derived
+pub fn outputs(
+    text: &[u8],
+    pair: Pair,
+    work: &[u16],
+    start: usize,
+    proof: &mut [u8],
+    at: Derived,
+    kz: u16,
+) -> Derived
     requires { ⌜ Lists (now text) pair × Room (length (now proof)) at (linesPerOutput * pair .outputs) × (start ≤ length (now work)) × (kz ≤ 10000) ⌝ }
     ensures few { λ r. ⌜ Few at (linesPerOutput * pair .outputs) r ⌝ }
     ensures emits { λ r. ⌜ ((w : Lists (now (text .entry)) pair) (t : List Entry) (links : List (List ℕ)) → Known (now (work .entry)) start t links
@@ -78,7 +97,18 @@ pub fn outputs(text: &[u8], pair: Pair, work: &[u16], start: usize, proof: &mut 
     while i < count {
         let gate = outputs_of(text, pair, i);
         let n = i as u16;
-        run = next_out(work, start, proof, run, w, kw + 3 * (n - 1), z + n, kz + 4 * n, gate.x, gate.y);
+        run = next_out(
+            work,
+            start,
+            proof,
+            run,
+            w,
+            kw + 3 * (n - 1),
+            z + n,
+            kz + 4 * n,
+            gate.x,
+            gate.y,
+        );
         w = first_w + (n - 1);
         i += 1;
     }

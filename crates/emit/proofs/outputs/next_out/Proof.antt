@@ -1,6 +1,4 @@
 -- A cut, ¬z, and a cut of the two: the lines of the tree in its order.
-use Prim.Native.Nat.{ℕ}
-use native.Mathlib.Omega.{arith}
 use borrow.Author.Needs.{needs}
 use Rattle.emit.proofs.EmitLaws.{emits-cut}
 use Rattle.emit.proofs.outputs.next_out.Statement.{statement}

@@ -1,9 +1,7 @@
 -- By the representative of x, the lines are those of the tree's case (`OutputLaws`).
-use Prim.Native.Nat.{ℕ}
 use mathlib.Core.Path.{_≡_, sym, _∙_}
 use native.Mathlib.Omega.{arith}
 use borrow.Author.Needs.{needs}
-use Rattle.model.specs.Nets.{netOf}
 use Rattle.emit_laws.specs.Gates.{linkOf}
 use Rattle.fold_laws.specs.Table.{repOf}
 use Rattle.emit.proofs.EmitLaws.{emits-cut}
