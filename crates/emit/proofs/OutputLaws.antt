@@ -8,6 +8,7 @@ use native.Mathlib.Omega.{arith}
 use lib.ListN.{length, drop, getD}
 use lib.Seq.{drop-cons, drop-length}
 use borrow.Author.Tests.{ne-eqb}
+use Rattle.model.specs.Limits.{mostInputs, mostGates, mostOutputs}
 use Rattle.model.specs.Nets.{Gate, netOf, size as netCount}
 use Rattle.model.specs.Nets.Op.{xor}
 use Rattle.model.specs.Clauses.{positive, neg}
@@ -102,13 +103,12 @@ module _ (R E : ℕ → ℕ) (gs : List Gate) (z kz count : ℕ) where
       → Emits p s q r (outTree R E kz (zOf x y))
       → UpTo p s (outsTree R E (z + count) (kz + 4 * count) z kz (kz + 4 * count + 3 * (count - 1)) gs) 1 q r z
   up-to-first x y h ex ey f =
-      let e1 : z + count + (1 - 1) ≡ z + count = omega arith in
-      let e2 : kz + 4 * count + 3 * (1 - 1) ≡ kz + 4 * count = omega arith in
-      let e3 : z + 1 ≡ suc z = omega arith in
+      let t : z + count + (1 - 1) ≡ z + count = omega arith in
+      let kw : kz + 4 * count + 3 * (1 - 1) ≡ kz + 4 * count = omega arith in
       record {
         run = outTree R E kz (getD gs 0 noGate);
         emits = rw (out-same R E kz x y (getD gs 0 noGate) ex ey) at f;
-        left = rw (e1, e2, e3) (outs-first R E (z + count) (kz + 4 * count) z kz (kz + 4 * count + 3 * (count - 1)) gs h);
+        left = rw (t, kw, add-one z) (outs-first R E (z + count) (kz + 4 * count) z kz (kz + 4 * count + 3 * (count - 1)) gs h);
       }
 
   -- one more
@@ -119,35 +119,34 @@ module _ (R E : ℕ → ℕ) (gs : List Gate) (z kz count : ℕ) where
       → UpTo p s whole (i + 1) m u (z + count + (i - 1))
   unfolding chain
   up-to-next {s = s} {r} {i = i} {w} x y a b ex ey h f =
-      let t : ℕ = z + count + (i - 1) in
       let k : ℕ = kz + 4 * count + 3 * (i - 1) in
       let g : Gate = getD gs i noGate in
       let over : Then (s .clauses) (h .run) (h .run) (old (r .clause)) = rw (h .emits .number) (then-old (s .clauses) (h .run)) in
       let two : k + 2 ≡ suc (suc k) = omega arith in
-      let e1 : z + count + (i + 1 - 1) ≡ suc t = omega arith in
-      let e2 : kz + 4 * count + 3 * (i + 1 - 1) ≡ k + 3 = omega arith in
-      let e3 : z + (i + 1) ≡ suc (z + i) = omega arith in
-      let e4 : kz + 4 * (i + 1) ≡ kz + 4 * i + 4 = omega arith in
+      let next-t : z + count + (i + 1 - 1) ≡ suc (z + count + (i - 1)) = omega arith in
+      let next-kw : kz + 4 * count + 3 * (i + 1 - 1) ≡ k + 3 = omega arith in
+      let next-z : z + (i + 1) ≡ suc (z + i) = omega arith in
+      let next-kz : kz + 4 * (i + 1) ≡ kz + 4 * i + 4 = omega arith in
       record {
         run = cut (cut (old (suc (suc k))) (h .run) (positive w)) (outTree R E (kz + 4 * i) g) (positive (z + i));
         emits =
             emits-then (h .emits) (rw (two, out-same R E (kz + 4 * i) x y g ex ey) at f) (then-first _ _ (then-second _ _ over));
-        left = rw (e1, e2, e3, e4, add-one i) (rw (drop-cons gs i noGate) at (h .left));
+        left = rw (next-t, next-kw, next-z, next-kz, add-one i) (rw (drop-cons gs i noGate) at (h .left));
       }
 
   -- and the empty clause
   pub up-to-all : {p q m : List ℕ} {s r u : Derived} {whole : Tree} {i w : ℕ} → i ≡ length gs → UpTo p s whole i q r w
       → Emits q r m u (cut (old (kz + 4 * count + 3 * (count - 1))) (old (r .clause)) (positive w)) → Emits p s m u whole
   unfolding chain
-  up-to-all {p} {q} {m} {s} {r} {u} {whole} {i} {w} e h f = subst (Emits p s m u) (rw (e, drop-length gs) at (h .left)) (emits-cut-left (h .emits) f)
+  up-to-all {p} {m = m} {s} {u = u} e h f = subst (Emits p s m u) (rw (e, drop-length gs) at (h .left)) (emits-cut-left (h .emits) f)
 
 -- ---- two lists
 
--- how many nets and outputs they have at most
+-- how many nets and outputs they have at most; an output there is
 pub record Small (p : Pair) : Type 0 where
-  pub nets : p .inputs + p .left + p .right ≤ 2112
+  pub nets : p .inputs + p .left + p .right ≤ mostInputs + 2 * mostGates
   pub some : 1 ≤ p .outputs
-  pub outputs : p .outputs ≤ 64
+  pub outputs : p .outputs ≤ mostOutputs
 
 module _ {text : List ℕ} {p : Pair} (w : Lists text p) where
   pub small : Small p
@@ -159,6 +158,7 @@ module _ {text : List ℕ} {p : Pair} (w : Lists text p) where
         outputs = omega (arith, a .outs, w .outputs);
       }
 
+  -- a z reads nets of the lists
   pub z-below : (k : ℕ) → k < p .outputs
       → (netOf (getD (zGates (w .left) (w .right)) k noGate .x) < 1 + p .inputs + p .left + p .right)
       × (netOf (getD (zGates (w .left) (w .right)) k noGate .y) < 1 + p .inputs + p .left + p .right)
@@ -171,6 +171,7 @@ module _ {text : List ℕ} {p : Pair} (w : Lists text p) where
       (below-at (firstGate a + length (b .gates)) (b .outs) k (below-right a b (w .alike)) (omega (arith, w .outputs, w .alike .outs))) in
       rw e (omega (arith, w .inputs, w .left-gates), omega (arith, w .inputs, w .left-gates, w .right-gates))
 
+  -- the outputs' tree, by the numbers that code has at hand
   pub last-tree : (R : ℕ → ℕ) (links : List (List ℕ)) (z kz : ℕ) → z ≡ 1 + p .inputs + p .left + p .right → kz ≡ firstZClause (w .left) (w .right)
       → outsTree R (linkOf links) (z + p .outputs) (kz + 4 * p .outputs) z kz (kz + 4 * p .outputs + 3 * (p .outputs - 1)) (zGates (w .left) (w .right))
       ≡ lastTree R links (w .left) (w .right)
