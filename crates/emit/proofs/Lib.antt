@@ -4,3 +4,4 @@ pub mod EmitLaws
 pub mod LineLaws
 pub mod SubstLaws
 pub mod NormalLaws
+pub mod OutputLaws

@@ -86,31 +86,21 @@ pub fn outputs(
         → length links ≡ 1 + pair .inputs + pair .left + pair .right → kz ≡ firstZClause (w .left) (w .right)
         → Emits (now (proof .entry)) at (now (proof .exit)) r (lastTree (repOf t) links (w .left) (w .right))) ⌝ }
 {
-    let count = pair.outputs;
+    let count = pair.outputs as u16;
     let z = (1 + pair.inputs + pair.left + pair.right) as u16;
-    let first_w = z + (count as u16);
-    let kw = kz + 4 * (count as u16);
+    let first_w = z + count;
+    let kw = kz + 4 * count;
     let first = outputs_of(text, pair, 0);
     let mut run = out(work, start, proof, at, kz, first.x, first.y);
     let mut w = z;
-    let mut i: usize = 1;
+    let mut i: u16 = 1;
     while i < count {
-        let gate = outputs_of(text, pair, i);
-        let n = i as u16;
-        run = next_out(
-            work,
-            start,
-            proof,
-            run,
-            w,
-            kw + 3 * (n - 1),
-            z + n,
-            kz + 4 * n,
-            gate.x,
-            gate.y,
-        );
-        w = first_w + (n - 1);
+        let gate = outputs_of(text, pair, i as usize);
+        let j = kw + 3 * (i - 1); // the clauses of the next w
+        let k = kz + 4 * i; // of this z
+        run = next_out(work, start, proof, run, w, j, z + i, k, gate.x, gate.y);
+        w = first_w + (i - 1);
         i += 1;
     }
-    cut(proof, run, kw + 3 * ((count as u16) - 1), run.clause, 2 * w)
+    cut(proof, run, kw + 3 * (count - 1), run.clause, 2 * w)
 }
