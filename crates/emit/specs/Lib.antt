@@ -1,3 +1,4 @@
 pub mod Emission
 pub mod Known
 pub mod Parts
+pub mod Pass

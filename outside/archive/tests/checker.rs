@@ -4,15 +4,15 @@
 mod common;
 
 use cec_archive::{check, evaluate};
-use cec_reference::sample::{LISTS, PROOF};
-use cec_reference::{evaluate_nets, output_word, read_lists, Clause, Netlist};
+use cec_reference::sample::PROOF;
+use cec_reference::{read_lists, Clause};
 use common::lists::{List, LARGEST};
 use common::pairs::MOST_INPUTS;
-use common::proof_texts::{self, ProofText};
+use common::proof_texts::{self, bench, ProofText, P5};
 use common::proofs::{Proof, Step, EXTEND_BY_AND, EXTEND_BY_XOR};
 use common::random::{seed, Random};
-use common::tally::Tally;
-use common::{expected, hex, list_texts, samples};
+use common::tally::{outcomes, Tally};
+use common::{expected, garbage, hex, list_texts, patterns, samples};
 
 /// How many proofs there are, and how many texts are made of each.
 const PROOFS: u64 = 50_000;
@@ -45,7 +45,7 @@ const GUARD: usize = 16;
 /// Checks with both in garbage, and compares reply, store and guards. Gives the reply.
 fn compare(case: u64, about: &str, text: &[u8], length: usize) -> [u64; 4] {
     let mut random = Random::of_case(seed(), case ^ ((length as u64) << 32));
-    let garbage = garbage(&mut random, length + 2 * GUARD);
+    let garbage = garbage::numbers(&mut random, length + 2 * GUARD);
     let mut lent = garbage.clone();
     let mut wanted = garbage;
     let behind = list_texts::with_bytes_behind(case, text);
@@ -65,20 +65,6 @@ fn compare(case: u64, about: &str, text: &[u8], length: usize) -> [u64; 4] {
         panic!("stores with guards differ at {place:?}: {}", about());
     }
     reply
-}
-
-/// Numbers of which none is 0, so that each one left behind is seen.
-fn garbage(random: &mut Random, length: usize) -> Vec<u16> {
-    let mut garbage = Vec::with_capacity(length + 4);
-    while garbage.len() < length {
-        let word = random.word().to_le_bytes();
-        let numbers = word
-            .chunks(2)
-            .map(|pair| u16::from_le_bytes([pair[0], pair[1]]) | 1);
-        garbage.extend(numbers);
-    }
-    garbage.truncate(length);
-    garbage
 }
 
 /// A length around what the text needs, or any if its lists are refused.
@@ -193,16 +179,13 @@ impl Reached {
         if left.inputs() > MOST_INPUTS || self.tried == lists {
             return;
         }
-        let mut values = [&left, &right].map(|list| vec![0; list.nets()]);
-        for pattern in 0..1 << left.inputs() {
-            let left_word = word(&left, pattern, &mut values[0]);
-            let right_word = word(&right, pattern, &mut values[1]);
+        for (pattern, [left_word, right_word]) in patterns::words(&left, &right) {
             assert_eq!(left_word, right_word, "seed {:#X}, case {case}", seed());
             if case.is_multiple_of(16) {
                 archive_agrees(lists, pattern, left_word);
             }
         }
-        self.agreeing.count(inputs_of(left.inputs()));
+        self.agreeing.count(patterns::inputs_of(left.inputs()));
         self.tried = lists.to_vec();
     }
 }
@@ -214,11 +197,6 @@ fn lists_of(text: &[u8]) -> &[u8] {
     &text[..lists.map(<[u8]>::len).sum()]
 }
 
-fn word(list: &Netlist, pattern: u64, values: &mut [u8]) -> u64 {
-    evaluate_nets(list, pattern, values);
-    output_word(list, values)
-}
-
 /// Both lists have this word, evaluated by the archive.
 fn archive_agrees(lists: &[u8], pattern: u64, word: u64) {
     let header = lists.windows(3).rposition(|bytes| bytes == b"\n01");
@@ -227,20 +205,6 @@ fn archive_agrees(lists: &[u8], pattern: u64, word: u64) {
         let mut work = [0xA5; 128];
         assert_eq!(evaluate(list, pattern, &mut work), [0, 0, word]);
     }
-}
-
-fn inputs_of(count: usize) -> String {
-    format!("{count:2} inputs")
-}
-
-/// The outcomes of refusals with these numbers, and of acceptance as 0.
-fn outcomes(numbers: &[u64]) -> Vec<String> {
-    numbers.iter().map(u64::to_string).collect()
-}
-
-/// The bench sample with these lines as its proof.
-fn bench(proof: &[&str]) -> String {
-    format!("{LISTS}{}", proof.concat())
 }
 
 /// The store after acceptance, or all zeros, as the call has to leave it.
@@ -342,14 +306,10 @@ fn an_empty_clause_does_not_end_the_proof() {
     }
 }
 
-/// P5 as a text. The left list is XOR of a, a, and the right one false; clause 3 is (a, ¬a, n).
-/// The extension t is AND of ¬a, n, and clause 11 is (¬a, ¬t). On a they resolve to (¬a, n, ¬t).
+/// P5: clause 14 is what clauses 3 and 11 give.
 #[test]
 fn sample_p5_keeps_the_other_sign() {
-    let text = "0101000101\n0300020002\n040004\n0101000001\n040000\n\
-        1200030004\n110003000B0001\n11000A00060003\n11000F00010000\n\
-        11001000020002\n11001000050002\n11001100120001\n";
-    let (reply, store) = stored(text, 8 * 19);
+    let (reply, store) = stored(P5, 8 * 19);
     assert_eq!(reply, [0, 0, 7, 19]);
     let clause = |number: usize| &store[8 * (number - 1)..8 * number];
     assert_eq!(clause(3), [3, 4, 5, 0, 0, 0, 0, 0]);
@@ -386,7 +346,7 @@ fn proofs_are_checked_alike() {
     let shown = SHOWN.map(String::from);
     reached.shown.finish(test, 100_000, &shown);
     reached.shown.often(test, 1_000, &shown);
-    let inputs: Vec<String> = (0..=MOST_INPUTS).map(inputs_of).collect();
+    let inputs: Vec<String> = (0..=MOST_INPUTS).map(patterns::inputs_of).collect();
     reached.agreeing.finish("agreeing pairs", 10_000, &inputs);
 }
 

@@ -7,7 +7,7 @@ use cec_archive::evaluate;
 use common::lists::{List, Shape, LARGEST};
 use common::random::{seed, Random};
 use common::tally::Tally;
-use common::{expected, hex, list_texts, places, samples};
+use common::{expected, garbage, hex, list_texts, places, samples};
 
 const CASES: u64 = 200_000;
 const SAMPLE_PATTERNS: u64 = 4_000;
@@ -22,8 +22,7 @@ const GUARD: usize = 16;
 /// Evaluates with both in garbage, and compares reply, working memory and guards. Gives the reply.
 fn compare(case: u64, about: &str, text: &[u8], pattern: u64, length: usize) -> [u64; 3] {
     let mut random = Random::of_case(seed(), case ^ ((length as u64) << 32));
-    // No byte of the garbage is 0, so that each one left behind is seen.
-    let garbage: Vec<u8> = (0..length + 2 * GUARD).map(|_| random.byte() | 1).collect();
+    let garbage = garbage::bytes(&mut random, length + 2 * GUARD);
     let mut lent = garbage.clone();
     let mut wanted = garbage;
     let behind = list_texts::with_bytes_behind(case, text);

@@ -1,13 +1,11 @@
 //! Frames. Renders the table of document 01, 'Lines on the wire', and what it says of a lone line,
 //! read and written.
 
-use std::fmt::Write;
-
-use crate::line::{digit, Line, Lines};
+use crate::line::{digit, Line, Lines, DIGITS, LF};
 use crate::refusal::Refusal;
 
 /// What a gate or an extension computes of its two operands.
-#[derive(Clone, Copy, Debug, PartialEq, Eq)]
+#[derive(Clone, Copy, Debug, PartialEq, Eq, Hash)]
 pub enum Operation {
     /// Kinds 02 and 12.
     And,
@@ -68,6 +66,9 @@ pub enum Frame {
         clauses: u16,
     },
 }
+
+/// A report's line has three bytes: the writer refuses "a line number above FFFFFF".
+const MOST_LINE: u64 = 0xFF_FFFF;
 
 /// How many bytes each field behind the kind has; none for a kind outside the table.
 pub fn field_bytes(kind: u8) -> Option<&'static [usize]> {
@@ -179,18 +180,12 @@ impl Frame {
         Self::from_fields(kind, fields)
     }
 
-    /// The line with its LF. None if a field does not fit its bytes, which only a report's line
-    /// can fail to do.
-    fn to_line(self) -> Option<String> {
-        let mut line = format!("{:02X}", self.kind());
-        for (value, bytes) in self.fields().iter().zip(field_bytes(self.kind())?) {
-            if value >> (8 * bytes) != 0 {
-                return None;
-            }
-            write!(line, "{value:0digits$X}", digits = 2 * bytes).ok()?;
+    /// Whether each field fits its bytes, which only a report's line can fail to do.
+    fn fits(self) -> bool {
+        match self {
+            Self::Report { line, .. } => line <= MOST_LINE,
+            _ => true,
         }
-        line.push('\n');
-        Some(line)
     }
 }
 
@@ -232,12 +227,29 @@ pub fn read_frame(text: &[u8]) -> Result<Frame, Refusal> {
 
 /// Writes a frame and gives the line's length. "Written, it stands with its LF at the buffer's
 /// start, zeros behind." After the writer's refusal 16 all of the buffer is zero.
+#[inline]
 pub fn write_frame(frame: &Frame, out: &mut [u8]) -> Result<usize, Refusal> {
     out.fill(0);
-    let line = frame.to_line().ok_or(Refusal::writer())?;
-    let room = out.get_mut(..line.len()).ok_or(Refusal::writer())?;
-    room.copy_from_slice(line.as_bytes());
-    Ok(line.len())
+    let widths = field_bytes(frame.kind()).expect("a frame's kind is in the table");
+    let length = 2 * (1 + widths.iter().sum::<usize>()) + 1;
+    let line = out.get_mut(..length).filter(|_| frame.fits());
+    let (kind, mut unwritten) = line.ok_or(Refusal::writer())?.split_at_mut(2);
+    write_number(frame.kind().into(), kind);
+    for (&field, bytes) in frame.fields().iter().zip(widths) {
+        let (digits, behind) = unwritten.split_at_mut(2 * bytes);
+        write_number(field, digits);
+        unwritten = behind;
+    }
+    unwritten.fill(LF);
+    Ok(length)
+}
+
+/// Writes a number over all of these bytes, "most significant digit first".
+#[inline]
+fn write_number(number: u64, digits: &mut [u8]) {
+    for (place, digit) in digits.iter_mut().rev().enumerate() {
+        *digit = DIGITS[(number >> (4 * place) & 0xF) as usize];
+    }
 }
 
 #[cfg(test)]

@@ -12,12 +12,14 @@
 //! - `clause`: a set of literals, the resolvent of two, and the clauses of an AND or XOR;
 //! - `miter`: the variables and clauses that a proof starts from;
 //! - `checker`: the steps of a proof, with 8 to 15, and the checking program's report, with 1;
+//! - `engine`: folded forms, and the proof that two lists with the same forms agree, with 16 to 18;
 //! - `sample`: the lists and the proof of the paper's bench samples.
 
 #![forbid(unsafe_code)]
 
 mod checker;
 mod clause;
+mod engine;
 mod evaluator;
 mod frame;
 mod line;
@@ -29,6 +31,7 @@ pub mod sample;
 
 pub use checker::{check, report, Checked};
 pub use clause::{definition, Clause};
+pub use engine::prove;
 pub use evaluator::{evaluate, evaluate_nets, output_word};
 pub use frame::{field_bytes, read_frame, write_frame, Frame, Operation};
 pub use literal::Literal;

@@ -6,7 +6,10 @@
 
 use crate::refusal::Refusal;
 
-const LF: u8 = 10;
+pub(crate) const LF: u8 = 10;
+
+/// The digits by their values.
+pub(crate) const DIGITS: &[u8; 16] = b"0123456789ABCDEF";
 
 /// One line of a text, without its LF.
 #[derive(Debug, PartialEq, Eq)]
@@ -75,18 +78,18 @@ fn take_digits(text: &[u8]) -> Option<(&[u8], &[u8])> {
 
 /// The value of a digit: 0-9 and A-F, and no small letter.
 pub(crate) fn digit(byte: u8) -> Option<u8> {
-    DIGITS[usize::from(byte)]
+    VALUES[usize::from(byte)]
 }
 
 /// The value of each byte that is a digit.
-const DIGITS: [Option<u8>; 256] = {
-    let mut digits = [None; 256];
+const VALUES: [Option<u8>; 256] = {
+    let mut values = [None; 256];
     let mut value = 0;
-    while value < 16 {
-        digits[b"0123456789ABCDEF"[value] as usize] = Some(value as u8);
+    while value < DIGITS.len() {
+        values[DIGITS[value] as usize] = Some(value as u8);
         value += 1;
     }
-    digits
+    values
 };
 
 #[cfg(test)]

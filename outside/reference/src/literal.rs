@@ -33,6 +33,11 @@ impl Literal {
         self.variable().into()
     }
 
+    /// The complement, or the literal itself.
+    pub(crate) fn complemented_if(self, turned: bool) -> Self {
+        Self(self.0 ^ u16::from(turned))
+    }
+
     /// Whether it shows the complement of its net or variable.
     pub fn is_complemented(self) -> bool {
         self.0 % 2 == 1
@@ -43,7 +48,7 @@ impl Not for Literal {
     type Output = Self;
 
     fn not(self) -> Self {
-        Self(self.0 ^ 1)
+        self.complemented_if(true)
     }
 }
 

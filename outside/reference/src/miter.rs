@@ -7,7 +7,7 @@
 use crate::clause::{definition, set, Clause};
 use crate::frame::Operation;
 use crate::literal::Literal;
-use crate::netlist::Netlist;
+use crate::netlist::{Gate, Netlist};
 
 /// What a proof starts from.
 #[derive(Clone, Debug, PartialEq, Eq)]
@@ -26,9 +26,11 @@ impl Miter {
             clauses: vec![set([!false_net])],
             variables: 1 + count(left.inputs()),
         };
-        // "Variables: 0 to I shared, left gates, right gates": a left net is its own variable.
-        miter.define_gates(left, |literal| literal);
-        miter.define_gates(right, |literal| beside(left, literal));
+        for gate in gates(left, right) {
+            let n = miter.next_variable();
+            let clauses = definition(n, gate.operation, gate.operands);
+            miter.clauses.extend(clauses);
+        }
         let differences = miter.define_differences(left, right);
         let some_difference = miter.define_joins(&differences);
         miter.clauses.push(set([some_difference]));
@@ -42,25 +44,14 @@ impl Miter {
         next.expect("a miter has at most 2,240 variables")
     }
 
-    /// Each gate of a list, whose literals stand for these.
-    fn define_gates(&mut self, list: &Netlist, renumbered: impl Fn(Literal) -> Literal) {
-        for gate in list.gates() {
-            let n = self.next_variable();
-            let operands = gate.operands.map(&renumbered);
-            self.clauses.extend(definition(n, gate.operation, operands));
-        }
-    }
-
     /// "z(k) is the XOR of left output k and right output k." Gives all z.
     fn define_differences(&mut self, left: &Netlist, right: &Netlist) -> Vec<Literal> {
-        let outputs = left.outputs().iter().zip(right.outputs());
-        let define = |(&left_output, &right_output)| {
+        let define = |shown| {
             let z = self.next_variable();
-            let operands = [left_output, beside(left, right_output)];
-            self.clauses.extend(definition(z, Operation::Xor, operands));
+            self.clauses.extend(definition(z, Operation::Xor, shown));
             z
         };
-        outputs.map(define).collect()
+        outputs(left, right).map(define).collect()
     }
 
     /// "w(k) is w(k−1) OR z(k), where w(1) means z(1)." Gives the last w.
@@ -74,6 +65,29 @@ impl Miter {
         let joined = differences.iter().copied().reduce(join);
         joined.expect("a list has an output")
     }
+}
+
+/// The gates of both lists over the miter's variables, in the order of these. "Variables: 0 to I
+/// shared, left gates, right gates": a left net is its own variable.
+pub(crate) fn gates<'lists>(
+    left: &'lists Netlist,
+    right: &'lists Netlist,
+) -> impl Iterator<Item = Gate> + 'lists {
+    let renumbered = move |gate: &Gate| Gate {
+        operands: gate.operands.map(|literal| beside(left, literal)),
+        ..*gate
+    };
+    let right = right.gates().iter().map(renumbered);
+    left.gates().iter().copied().chain(right)
+}
+
+/// What the left list shows at each output and what the right one, over the miter's variables.
+pub(crate) fn outputs<'lists>(
+    left: &'lists Netlist,
+    right: &'lists Netlist,
+) -> impl Iterator<Item = [Literal; 2]> + 'lists {
+    let pairs = left.outputs().iter().zip(right.outputs());
+    pairs.map(|(&shown, &right)| [shown, beside(left, right)])
 }
 
 /// A right list's literal over the miter's variables: the constant and the inputs are shared, and

@@ -104,11 +104,27 @@ impl Refusal {
         }
     }
 
+    /// Place 'engine, lists read': "proof bytes below 15 × the line bound; line 0".
+    pub(crate) fn proof_bytes() -> Self {
+        Self {
+            number: 16,
+            line: 0,
+        }
+    }
+
     /// Place 'engine or evaluator, lists read': "working memory short; line 0".
     pub(crate) fn working_memory() -> Self {
         Self {
             number: 17,
             line: 0,
+        }
+    }
+
+    /// Place 'engine': "forms differ; the first such output, from 1, stands as the line".
+    pub(crate) fn forms(output: u64) -> Self {
+        Self {
+            number: 18,
+            line: output,
         }
     }
 }

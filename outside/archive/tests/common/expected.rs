@@ -67,3 +67,13 @@ pub fn checking(text: &[u8], store: &mut [u16]) -> [u64; 4] {
         Err(Refusal { number, line }) => [number.into(), line, 0, 0],
     }
 }
+
+/// The first two numbers of cec_prove's reply. The third, the number of lines, is as free as the
+/// lines are.
+pub fn proving(text: &[u8], proof_len: usize, work_len: usize) -> [u64; 2] {
+    let (mut proof, mut work) = (vec![0; proof_len], vec![0; work_len]);
+    match cec_reference::prove(text, &mut proof, &mut work) {
+        Ok(_) => [0, 0],
+        Err(Refusal { number, line }) => [number.into(), line],
+    }
+}

@@ -2,6 +2,10 @@
 
 use super::random::Random;
 
+/// The kinds of gate.
+pub const AND: u8 = 0x02;
+pub const XOR: u8 = 0x03;
+
 /// The places of a header's counts.
 const INPUTS: usize = 0;
 const GATES: usize = 1;
@@ -84,7 +88,7 @@ impl List {
         let readable = |nets| if constant_only { 1 } else { nets };
         let mut gates = Vec::new();
         for own in 1 + shape.inputs..shape.nets() {
-            let kind = random.pick(&[0x02, 0x03]);
+            let kind = random.pick(&[AND, XOR]);
             let operands = [readable(own); 2].map(|nets| literal_below(random, nets));
             gates.push((kind, operands));
         }
@@ -181,14 +185,14 @@ impl List {
 }
 
 /// A literal over one of so many nets, often the first or the last of them.
-fn literal_below(random: &mut Random, nets: usize) -> usize {
+pub fn literal_below(random: &mut Random, nets: usize) -> usize {
     let any = random.below(nets);
     let net = random.pick(&[0, nets / 2, nets - 1, nets - 1, any, any, any, any]);
     2 * net + random.below(2)
 }
 
 /// The first of so many, the last, or any.
-fn some_place(random: &mut Random, count: usize) -> usize {
+pub fn some_place(random: &mut Random, count: usize) -> usize {
     let any = random.below(count);
     random.pick(&[0, count - 1, any, any])
 }

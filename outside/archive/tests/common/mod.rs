@@ -6,14 +6,18 @@
 
 pub mod calls;
 pub mod expected;
+pub mod garbage;
 pub mod list_texts;
 pub mod lists;
 pub mod pairs;
+pub mod patterns;
 pub mod places;
+pub mod programs;
 pub mod proof_texts;
 pub mod proofs;
 pub mod random;
 pub mod refutations;
+pub mod rewrites;
 pub mod samples;
 pub mod tally;
 pub mod texts;

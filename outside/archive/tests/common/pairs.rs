@@ -2,13 +2,11 @@
 
 use cec_reference::{evaluate_nets, read_list};
 
-use super::lists::{List, Shape};
+use super::lists::{List, Shape, XOR};
 use super::random::Random;
 
 /// The most inputs of a pair: all its patterns are tried.
 pub const MOST_INPUTS: usize = 10;
-
-const XOR: u8 = 0x03;
 
 /// Two lists with equal outputs. The right gates are the left ones rewritten, or others.
 pub fn agreeing(random: &mut Random) -> [List; 2] {

@@ -42,7 +42,7 @@ fn counts(text: &[u8], header: u64) -> (u64, u64) {
 }
 
 /// The name of the one with this number, from 1, out of so many.
-fn which(number: u64, count: u64, list: &str, what: &str) -> String {
+pub fn which(number: u64, count: u64, list: &str, what: &str) -> String {
     let ordinal = match number {
         _ if count == 1 => "only",
         1 => "first",

@@ -1,5 +1,6 @@
 //! Texts of proofs: whole ones, ones that end otherwise, and ones with a fault at some line.
 
+use cec_reference::sample::LISTS;
 use cec_reference::Literal;
 
 use super::calls::line;
@@ -8,6 +9,17 @@ use super::proofs::{Proof, Step, EXTEND_BY_AND, EXTEND_BY_XOR, RESOLVE};
 use super::random::Random;
 use super::refutations::refute_among_others;
 use super::{list_texts, texts};
+
+/// P5 as a text. The left list is XOR of a, a, and the right one false; clause 3 is (a, ¬a, n).
+/// The extension t is AND of ¬a, n, and clause 11 is (¬a, ¬t). On a they resolve to (¬a, n, ¬t).
+pub const P5: &str = "0101000101\n0300020002\n040004\n0101000001\n040000\n\
+    1200030004\n110003000B0001\n11000A00060003\n11000F00010000\n\
+    11001000020002\n11001000050002\n11001100120001\n";
+
+/// The bench sample with these lines as its proof.
+pub fn bench(proof: &[&str]) -> String {
+    format!("{LISTS}{}", proof.concat())
+}
 
 /// A text for the checker.
 pub struct ProofText {

@@ -3,6 +3,11 @@
 
 use std::collections::BTreeMap;
 
+/// The outcomes of refusals with these numbers, and of acceptance as 0.
+pub fn outcomes(numbers: &[u64]) -> Vec<String> {
+    numbers.iter().map(u64::to_string).collect()
+}
+
 #[derive(Default)]
 pub struct Tally {
     cases: u64,

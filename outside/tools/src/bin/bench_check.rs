@@ -7,8 +7,8 @@
 mod common;
 
 use std::hint::black_box;
-use std::time::{Duration, Instant};
 
+use cec_tools::{growth, medians};
 use common::proofs::Proof;
 use common::random::{seed, Random};
 use common::refutations::refute;
@@ -20,10 +20,6 @@ const LISTS: &[u8] = b"0102000301\n0200020005\n0200030004\n0200070009\n04000B\n\
 /// Lines of the shortest text, and how often they are doubled: 65,535 clauses suffice for the last.
 const FEWEST_LINES: usize = 63;
 const DOUBLINGS: u32 = 10;
-
-/// How many times each side is timed, and for how long at least each time.
-const ROUNDS: usize = 41;
-const ROUND: Duration = Duration::from_micros(500);
 
 /// What the lines before the last refutation are.
 type Filling = (&'static str, fn(&mut Proof, &mut Random));
@@ -57,47 +53,29 @@ fn proof_of(lines: usize, fill: fn(&mut Proof, &mut Random)) -> Proof {
     proof
 }
 
-/// One of the checkers: whether it accepted.
-type Checker = fn(&[u8], &mut [u16]) -> bool;
-
-const ARCHIVE: Checker = |text, store| cec_archive::check(text, store)[0] == 0;
-const REFERENCE: Checker = |text, store| cec_reference::check(text, store).is_ok();
-
-/// The time of one call, in nanoseconds, out of so many.
-fn time(checker: Checker, calls: usize, text: &[u8], store: &mut [u16]) -> f64 {
-    let start = Instant::now();
-    for _ in 0..calls {
-        assert!(checker(black_box(text), black_box(store)));
-    }
-    start.elapsed().as_secs_f64() * 1e9 / calls as f64
+/// What a checker is lent.
+struct Lent {
+    text: Vec<u8>,
+    store: Vec<u16>,
 }
 
-fn median(mut times: Vec<f64>) -> f64 {
-    times.sort_by(f64::total_cmp);
-    times[times.len() / 2]
+fn check_by_archive(lent: &mut Lent) {
+    let [refusal, ..] = cec_archive::check(black_box(&lent.text), &mut lent.store);
+    assert_eq!(refusal, 0);
 }
 
-/// The median times of the archive and of the reference on a text.
-fn measure(text: &[u8], store: &mut [u16]) -> [f64; 2] {
-    let checkers = [ARCHIVE, REFERENCE];
-    let calls = checkers.map(|checker| {
-        let once = time(checker, 1, text, store);
-        1 + (ROUND.as_nanos() as f64 / once) as usize
-    });
-    let mut times = [Vec::new(), Vec::new()];
-    for round in 0..ROUNDS {
-        // Each goes first in half of the rounds.
-        for turn in [round % 2, 1 - round % 2] {
-            times[turn].push(time(checkers[turn], calls[turn], text, store));
-        }
-    }
-    times.map(median)
+fn check_by_reference(lent: &mut Lent) {
+    let checked = cec_reference::check(black_box(&lent.text), &mut lent.store);
+    assert!(checked.is_ok());
 }
 
 /// Both leave the same store.
-fn compare(text: &[u8], length: usize) {
-    let mut stores = [vec![1; length], vec![1; length]];
-    assert!(ARCHIVE(text, &mut stores[0]) && REFERENCE(text, &mut stores[1]));
+fn compare(lent: &mut Lent) {
+    let stores = [check_by_archive, check_by_reference].map(|check| {
+        lent.store.fill(1);
+        check(lent);
+        lent.store.clone()
+    });
     assert!(stores[0] == stores[1], "the stores differ");
 }
 
@@ -108,26 +86,23 @@ fn print_table((name, fill): Filling) {
     for doubling in 0..=DOUBLINGS {
         let lines = FEWEST_LINES << doubling;
         let proof = proof_of(lines, fill);
-        let text = proof.text(&proof.lines());
-        let mut store = vec![0; 8 * proof.clauses.len()];
-        compare(&text, store.len());
-        let times = measure(&text, &mut store);
+        let mut lent = Lent {
+            text: proof.text(&proof.lines()),
+            store: vec![0; 8 * proof.clauses.len()],
+        };
+        compare(&mut lent);
+        let times = medians([check_by_archive, check_by_reference], &mut lent);
         let [ours, rust] = times.map(|time| time / lines as f64);
         let growth = [0, 1].map(|side| growth(before[side], times[side]));
         println!(
             "{:8} {lines:6} | {ours:15.1} {:>7} | {rust:12.1} {:>7} | {:5.2}",
-            text.len(),
+            lent.text.len(),
             growth[0],
             growth[1],
             ours / rust
         );
         before = times.map(Some);
     }
-}
-
-/// The time over that of half as many lines.
-fn growth(before: Option<f64>, time: f64) -> String {
-    before.map_or(String::new(), |before| format!("{:.2}", time / before))
 }
 
 fn main() {

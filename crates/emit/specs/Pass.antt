@@ -1,0 +1,51 @@
+-- What is done for one gate, and for all gates of both lists.
+use Prim.Native.Nat.{ℕ, suc, _+_}
+use mathlib.Core.Path.{_≡_}
+use mathlib.Core.Bool.{Bool}
+use mathlib.Core.List.{List, [], _∷_, _++_}
+use lib.ListN.{length}
+use Rattle.model.specs.Answers.{filled}
+use Rattle.model.specs.Nets.{Gate, Netlist}
+use Rattle.model.specs.Miter.{firstGate, gatesOf}
+use Rattle.fold_laws.specs.Table.{Entry, repOf}
+use Rattle.emit_laws.specs.Replay.{Resolution}
+use Rattle.emit_laws.specs.Trees.{Tree, sizes, nums, lays}
+use Rattle.emit_laws.specs.Place.{clauseCount, firstZClause}
+use Rattle.emit_laws.specs.Loop as model
+use Rattle.emit_laws.specs.Loop.{slots, sign, gateTrees, loop}
+use Rattle.emit_laws.specs.Emit.{startLinks}
+use Rattle.table.specs.Links.{linkWidth}
+use Rattle.emit.specs.declared.lines.Derived.{Derived}
+use Rattle.emit.specs.declared.kept.Kept.{Kept}
+use Rattle.emit.specs.declared.pass.Passed.{Passed}
+use Rattle.emit.specs.Emission.{Written}
+use Rattle.emit.specs.Known.{Known}
+
+-- the lines of a gate's trees, and the numbers to be kept of it: two links are exchanged where the trees were made for the odd literal
+pub record EmitsGate (p : List ℕ) (s : Derived) (q : List ℕ) (r : Kept) (odd : Bool) (ts : List Tree) : Type 0 where
+  pub written : (rs : List Resolution) → Written p rs → length rs ≡ s .lines → Written q (rs ++ lays (s .clauses) ts)
+  pub lines : r .lines ≡ s .lines + sizes ts
+  pub clauses : r .clauses ≡ s .clauses + sizes ts
+  pub numbers : r .numbers ≡ filled linkWidth (slots odd (nums (s .clauses) ts))
+
+-- the lines rs were written behind others, and their clauses counted
+pub record Adds (p : List ℕ) (s : Passed) (q : List ℕ) (r : Passed) (more : List Resolution) : Type 0 where
+  pub written : (rs : List Resolution) → Written p rs → length rs ≡ s .lines → Written q (rs ++ more)
+  pub lines : r .lines ≡ s .lines + length more
+  pub clauses : r .clauses ≡ s .clauses + length more
+
+-- gate g of net v, whose clauses begin with the number that comes next
+pub record GateDone (p : List ℕ) (s : Passed) (q work : List ℕ) (start : ℕ) (r : Passed) (t : List Entry) (links : List (List ℕ)) (v : ℕ) (g : Gate) : Type 0 where
+  pub adds : Adds p s q r (lays (s .clauses) (gateTrees (repOf t) links (s .next) v g))
+  pub known : Known work start t (links ++ (slots (sign (repOf t) v g) (nums (s .clauses) (gateTrees (repOf t) links (s .next) v g)) ∷ []))
+  pub next : r .next ≡ s .next + clauseCount (g .op)
+
+-- the gates of both lists, where n clauses are there before
+abbrev pub gatesDone : List Entry → Netlist → Netlist → ℕ → model.Done
+gatesDone t a b n = loop (repOf t) (startLinks (a .inputs)) n 2 (firstGate a) (gatesOf a b)
+
+pub record AllDone (p : List ℕ) (s : Passed) (q work : List ℕ) (start : ℕ) (r : Passed) (t : List Entry) (a b : Netlist) : Type 0 where
+  pub adds : Adds p s q r (gatesDone t a b (s .clauses) .lines)
+  pub known : Known work start t (gatesDone t a b (s .clauses) .links)
+  pub nets : length (gatesDone t a b (s .clauses) .links) ≡ firstGate a + length (gatesOf a b)
+  pub next : r .next ≡ firstZClause a b
