@@ -1,15 +1,17 @@
 -- What is done for one gate, and for all gates of both lists.
-use Prim.Native.Nat.{ℕ, suc, _+_}
+use Prim.Native.Nat.{ℕ, _+_, _*_, _≤_}
 use mathlib.Core.Path.{_≡_}
 use mathlib.Core.Bool.{Bool}
 use mathlib.Core.List.{List, [], _∷_, _++_}
 use lib.ListN.{length}
+use Rattle.model.specs.Limits.{mostClauses, proofLineBytes}
 use Rattle.model.specs.Answers.{filled}
-use Rattle.model.specs.Nets.{Gate, Netlist}
+use Rattle.model.specs.Nets.{Gate, Netlist, odd}
 use Rattle.model.specs.Miter.{firstGate, gatesOf}
 use Rattle.fold_laws.specs.Table.{Entry, repOf}
 use Rattle.emit_laws.specs.Replay.{Resolution}
 use Rattle.emit_laws.specs.Trees.{Tree, sizes, nums, lays}
+use Rattle.emit_laws.specs.Gates.{Literals, linkOf, normal, normalNumbers, trees}
 use Rattle.emit_laws.specs.Place.{clauseCount, firstZClause}
 use Rattle.emit_laws.specs.Loop as model
 use Rattle.emit_laws.specs.Loop.{slots, sign, gateTrees, loop}
@@ -17,16 +19,41 @@ use Rattle.emit_laws.specs.Emit.{startLinks}
 use Rattle.table.specs.Links.{linkWidth}
 use Rattle.emit.specs.declared.lines.Derived.{Derived}
 use Rattle.emit.specs.declared.kept.Kept.{Kept}
+use Rattle.emit.specs.declared.gates.Defined.{Defined}
 use Rattle.emit.specs.declared.pass.Passed.{Passed}
 use Rattle.emit.specs.Emission.{Written}
-use Rattle.emit.specs.Known.{Known}
+use Rattle.emit.specs.Known.{Known, literalsOf, numbersOf, keptOf}
 
 -- the lines of a gate's trees, and the numbers to be kept of it: two links are exchanged where the trees were made for the odd literal
-pub record EmitsGate (p : List ℕ) (s : Derived) (q : List ℕ) (r : Kept) (odd : Bool) (ts : List Tree) : Type 0 where
+pub record EmitsGate (p : List ℕ) (s : Derived) (q : List ℕ) (r : Kept) (turned : Bool) (ts : List Tree) : Type 0 where
   pub written : (rs : List Resolution) → Written p rs → length rs ≡ s .lines → Written q (rs ++ lays (s .clauses) ts)
   pub lines : r .lines ≡ s .lines + sizes ts
   pub clauses : r .clauses ≡ s .clauses + sizes ts
-  pub numbers : r .numbers ≡ filled linkWidth (slots odd (nums (s .clauses) ts))
+  pub numbers : r .numbers ≡ filled linkWidth (slots turned (nums (s .clauses) ts))
+
+-- a gate's literals in normal form
+abbrev settledLiterals : List Entry → Bool → Defined → Literals
+settledLiterals t o d = normal (repOf t) o (literalsOf d)
+
+-- whether its trees are made for an odd literal, and the trees
+abbrev pub settledOdd : List Entry → Bool → Defined → Bool
+settledOdd t o d = odd (settledLiterals t o d .n)
+
+abbrev pub settledTrees : List Entry → List (List ℕ) → Bool → Defined → List Tree
+settledTrees t links o d =
+    trees (repOf t) (linkOf links) o (settledLiterals t o d) (normalNumbers (repOf t) o (literalsOf d) (numbersOf d))
+    (keptOf t links (settledLiterals t o d .n))
+
+-- so many lines more have room in so many bytes, and their clauses have numbers
+pub record PassRoom (bytes : ℕ) (at : Passed) (more : ℕ) : Type 0 where
+  pub bytes-for-all : proofLineBytes * (at .lines + more) ≤ bytes
+  pub numbers : at .clauses + more ≤ mostClauses
+
+-- at most so many lines more, and four clauses of a gate
+pub record FewPassed (at : Passed) (more : ℕ) (r : Passed) : Type 0 where
+  pub lines : r .lines ≤ at .lines + more
+  pub clauses : r .clauses ≤ at .clauses + more
+  pub next : r .next ≤ at .next + 4
 
 -- the lines rs were written behind others, and their clauses counted
 pub record Adds (p : List ℕ) (s : Passed) (q : List ℕ) (r : Passed) (more : List Resolution) : Type 0 where

@@ -1,5 +1,6 @@
 // All gates of both lists, one after the other, and then the outputs.
 use crate::ands::and_gate;
+use crate::begin::behind;
 use crate::gates::Defined;
 use crate::gates::normal_and;
 use crate::gates::normal_xor;
@@ -13,12 +14,12 @@ use netlist::Pair;
 use netlist::again::Gate;
 use table::links::keep;
 ghost use mathlib.Core.Path.{_≡_};
-ghost use mathlib.Core.Bool.{true};
+ghost use mathlib.Core.Bool.{true, false};
 ghost use mathlib.Core.List.{List, []};
 ghost use Prim.Native.Nat.{ℕ, _+_, _*_, _<_, _≤_};
 ghost use lib.ListN.{length};
 ghost use Rattle.model.specs.Limits.{linesPerGate, highestVariable, mostClauses, mostInputs};
-ghost use Rattle.model.specs.Nets.{netOf, readsBelow};
+ghost use Rattle.model.specs.Nets.{odd, readsBelow};
 ghost use Rattle.model.specs.Clauses.{positive};
 ghost use Rattle.laws.specs.Pairs.{isXor};
 ghost use Rattle.fold_laws.specs.Table.{Entry, repOf};
@@ -31,8 +32,7 @@ ghost use Rattle.table.specs.Links.{linkWidth, Keeps};
 ghost use Rattle.checker.specs.Miters.{Lists};
 ghost use Rattle.emit.specs.Emission.{Room, FewKept, EmitsAll};
 ghost use Rattle.emit.specs.Known.{Known, Next, literalsOf, numbersOf};
-ghost use Rattle.emit.specs.Pass.{EmitsGate};
-ghost use Rattle.emit.specs.declared.lines.Derived.{Derived as DerivedType};
+ghost use Rattle.emit.specs.Pass.{EmitsGate, GateDone, PassRoom, FewPassed, settledOdd, settledTrees};
 
 // Where the proof ends: its lines, how many clauses there are then, and the number of the next gate's first clause.
 pub struct Passed {
@@ -55,4 +55,64 @@ fn exchanged(kept: Kept) -> Kept
         };
     }
     kept
+}
+
+// The lines of a gate, from its clauses, and the numbers to be kept of it.
+fn settled(work: &[u16], start: usize, proof: &mut [u8], at: Derived, op: Op, d: Defined) -> Kept
+    requires { ⌜ Room (length (now proof)) at linesPerGate × (start ≤ length (now work)) ⌝ }
+    ensures few { λ r. ⌜ FewKept at linesPerGate r ⌝ }
+    ensures emits { λ r. ⌜ ((t : List Entry) (links : List (List ℕ)) → Known (now (work .entry)) start t links → Next t links (literalsOf d) → odd (d .n) ≡ false
+        → EmitsGate (now (proof .entry)) at (now (proof .exit)) r (settledOdd t (isXor (opOf op)) d) (settledTrees t links (isXor (opOf op)) d)) ⌝ }
+{
+    match op {
+        Op::And => and_gate(work, start, proof, at, normal_and(work, d)),
+        Op::Xor => {
+            let normal = normal_xor(work, d);
+            let kept = xor_gate(work, start, proof, at, normal);
+            if normal.n % 2 == 1 {
+                return exchanged(kept);
+            }
+            kept
+        }
+    }
+}
+
+// Gate v, whose clauses begin with the number that comes next.
+fn one_gate(
+    work: &mut [u16],
+    start: usize,
+    proof: &mut [u8],
+    at: Passed,
+    v: usize,
+    gate: Gate,
+) -> Passed
+    requires { ⌜ PassRoom (length (now proof)) at linesPerGate × (start + linkWidth * v + linkWidth ≤ length (now work)) × (v ≤ highestVariable) × (at .next ≤ 60000) ⌝ }
+    ensures few { λ r. ⌜ FewPassed at linesPerGate r ⌝ }
+    ensures done { λ r. ⌜ ((t : List Entry) (links : List (List ℕ)) → Known (now (work .entry)) start t links → length links ≡ v → v < length t → readsBelow v (gateMeant gate) ≡ true
+        → GateDone (now (proof .entry)) at (now (proof .exit)) (now (work .exit)) start r t links v (gateMeant gate)) ⌝ }
+{
+    let k = at.next;
+    let op = gate.op;
+    let d = Defined {
+        n: 2 * (v as u16),
+        x: gate.x,
+        y: gate.y,
+        a: k,
+        b: k + 1,
+        c: k + 2,
+        d: k + 3,
+    };
+    let end = Derived {
+        lines: at.lines,
+        clauses: at.clauses,
+        clause: 0,
+    };
+    let kept = settled(work, start, proof, end, op, d);
+    let numbers = kept.numbers;
+    keep(work, start, v, numbers);
+    Passed {
+        lines: kept.lines,
+        clauses: kept.clauses,
+        next: behind(k, op),
+    }
 }
