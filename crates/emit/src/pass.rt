@@ -41,38 +41,41 @@ pub struct Passed {
     pub next: u16,
 }
 
-// Two links were made for the odd literal and its complement: they change places.
-fn exchanged(kept: Kept) -> Kept
-    ensures { λ r. ⌜ ((p q : List ℕ) (s : Derived) (ts : List Tree) → EmitsAll p s q kept ts → EmitsGate p s q r true ts) ⌝ }
+// The numbers as they are kept: two links that were made for an odd literal and its complement change places.
+fn slotted(kept: Kept, turned: bool) -> Kept
+    ensures same { λ r. ⌜ (r .lines ≡ kept .lines) × (r .clauses ≡ kept .clauses) ⌝ }
+    ensures emits { λ r. ⌜ ((p q : List ℕ) (s : Derived) (ts : List Tree) → EmitsAll p s q kept ts → EmitsGate p s q r turned ts) ⌝ }
 {
-    if kept.linked {
-        let numbers = kept.numbers;
-        return Kept {
-            lines: kept.lines,
-            clauses: kept.clauses,
-            linked: true,
-            numbers: [numbers[1], numbers[0], 0, 0],
-        };
+    if !turned {
+        return kept;
     }
-    kept
+    if !kept.linked {
+        return kept;
+    }
+    let numbers = kept.numbers;
+    Kept {
+        lines: kept.lines,
+        clauses: kept.clauses,
+        linked: true,
+        numbers: [numbers[1], numbers[0], 0, 0],
+    }
 }
 
 // The lines of a gate, from its clauses, and the numbers to be kept of it.
 fn settled(work: &[u16], start: usize, proof: &mut [u8], at: Derived, op: Op, d: Defined) -> Kept
     requires { ⌜ Room (length (now proof)) at linesPerGate × (start ≤ length (now work)) ⌝ }
     ensures few { λ r. ⌜ FewKept at linesPerGate r ⌝ }
-    ensures emits { λ r. ⌜ ((t : List Entry) (links : List (List ℕ)) → Known (now (work .entry)) start t links → Next t links (literalsOf d) → odd (d .n) ≡ false
+    ensures emits { λ r. ⌜ ((t : List Entry) (links : List (List ℕ)) → Known (now (work .entry)) start t links → Next t links (literalsOf d)
         → EmitsGate (now (proof .entry)) at (now (proof .exit)) r (settledOdd t (isXor (opOf op)) d) (settledTrees t links (isXor (opOf op)) d)) ⌝ }
 {
     match op {
-        Op::And => and_gate(work, start, proof, at, normal_and(work, d)),
+        Op::And => {
+            let normal = normal_and(work, d);
+            slotted(and_gate(work, start, proof, at, normal), normal.n % 2 == 1)
+        }
         Op::Xor => {
             let normal = normal_xor(work, d);
-            let kept = xor_gate(work, start, proof, at, normal);
-            if normal.n % 2 == 1 {
-                return exchanged(kept);
-            }
-            kept
+            slotted(xor_gate(work, start, proof, at, normal), normal.n % 2 == 1)
         }
     }
 }
