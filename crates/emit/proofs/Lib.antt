@@ -5,3 +5,4 @@ pub mod LineLaws
 pub mod SubstLaws
 pub mod NormalLaws
 pub mod OutputLaws
+pub mod BeginLaws
