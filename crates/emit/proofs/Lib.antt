@@ -6,3 +6,4 @@ pub mod SubstLaws
 pub mod NormalLaws
 pub mod OutputLaws
 pub mod PassLaws
+pub mod BeginLaws
