@@ -9,13 +9,14 @@ use Rattle.model.specs.Answers.{filled}
 use Rattle.model.specs.Nets.{Gate, Netlist, odd}
 use Rattle.model.specs.Miter.{firstGate, gatesOf}
 use Rattle.fold_laws.specs.Table.{Entry, repOf}
+use Rattle.fold_laws.specs.Engine.{bothTable}
 use Rattle.emit_laws.specs.Replay.{Resolution}
 use Rattle.emit_laws.specs.Trees.{Tree, sizes, nums, lays}
 use Rattle.emit_laws.specs.Gates.{Literals, linkOf, normal, normalNumbers, trees}
 use Rattle.emit_laws.specs.Place.{clauseCount, firstZClause}
 use Rattle.emit_laws.specs.Loop as model
 use Rattle.emit_laws.specs.Loop.{slots, sign, gateTrees, loop}
-use Rattle.emit_laws.specs.Emit.{startLinks}
+use Rattle.emit_laws.specs.Emit.{startLinks, emit}
 use Rattle.table.specs.Links.{linkWidth}
 use Rattle.emit.specs.declared.lines.Derived.{Derived}
 use Rattle.emit.specs.declared.kept.Kept.{Kept}
@@ -76,3 +77,7 @@ pub record AllDone (p : List ℕ) (s : Passed) (q work : List ℕ) (start : ℕ)
   pub known : Known work start t (gatesDone t a b (s .clauses) .links)
   pub nets : length (gatesDone t a b (s .clauses) .links) ≡ firstGate a + length (gatesOf a b)
   pub next : r .next ≡ firstZClause a b
+
+-- all lines for two lists, from their table
+abbrev pub linesOf : Netlist → Netlist → List Resolution
+linesOf a b = emit (repOf (bothTable a b)) a b

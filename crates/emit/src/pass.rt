@@ -1,6 +1,8 @@
 // All gates of both lists, one after the other, and then the outputs.
 use crate::ands::and_gate;
 use crate::begin::behind;
+use crate::begin::first_z_clause;
+use crate::begin::start_links;
 use crate::gates::Defined;
 use crate::gates::normal_and;
 use crate::gates::normal_xor;
@@ -13,26 +15,26 @@ use frame::Op;
 use netlist::Pair;
 use netlist::again::Gate;
 use table::links::keep;
+use table::rows::ROW;
 ghost use mathlib.Core.Path.{_≡_};
 ghost use mathlib.Core.Bool.{true, false};
 ghost use mathlib.Core.List.{List, []};
 ghost use Prim.Native.Nat.{ℕ, _+_, _*_, _<_, _≤_};
 ghost use lib.ListN.{length};
-ghost use Rattle.model.specs.Limits.{linesPerGate, highestVariable, mostClauses, mostInputs};
-ghost use Rattle.model.specs.Nets.{odd, readsBelow};
-ghost use Rattle.model.specs.Clauses.{positive};
+ghost use Rattle.model.specs.Limits.{linesPerGate, linesPerOutput, proofLineBytes, numbersPerNet, highestVariable};
+ghost use Rattle.model.specs.Nets.{readsBelow};
 ghost use Rattle.laws.specs.Pairs.{isXor};
-ghost use Rattle.fold_laws.specs.Table.{Entry, repOf};
+ghost use Rattle.fold_laws.specs.Table.{Entry};
+ghost use Rattle.fold_laws.specs.Engine.{bothTable};
 ghost use Rattle.emit_laws.specs.Trees.{Tree};
-ghost use Rattle.emit_laws.specs.Gates.{Literals, linkOf, normal, normalNumbers, trees};
 ghost use Rattle.emit_laws.specs.Emit.{startLinks};
 ghost use Rattle.netlist.specs.Again.{opOf, gateMeant};
-ghost use Rattle.table.specs.Rows.{rowWidth, Holds};
-ghost use Rattle.table.specs.Links.{linkWidth, Keeps};
+ghost use Rattle.table.specs.Rows.{Holds};
+ghost use Rattle.table.specs.Links.{linkWidth};
 ghost use Rattle.checker.specs.Miters.{Lists};
-ghost use Rattle.emit.specs.Emission.{Room, FewKept, EmitsAll};
-ghost use Rattle.emit.specs.Known.{Known, Next, literalsOf, numbersOf};
-ghost use Rattle.emit.specs.Pass.{EmitsGate, GateDone, PassRoom, FewPassed, settledOdd, settledTrees};
+ghost use Rattle.emit.specs.Emission.{Written, Room, FewKept, EmitsAll};
+ghost use Rattle.emit.specs.Known.{Known, Next, literalsOf};
+ghost use Rattle.emit.specs.Pass.{EmitsGate, GateDone, AllDone, linesOf, PassRoom, FewPassed, settledOdd, settledTrees};
 
 // Where the proof ends: its lines, how many clauses there are then, and the number of the next gate's first clause.
 pub struct Passed {
@@ -118,4 +120,59 @@ fn one_gate(
         clauses: kept.clauses,
         next: behind(k, op),
     }
+}
+
+// The gates of both lists.
+fn gates(
+    text: &[u8],
+    pair: Pair,
+    work: &mut [u16],
+    start: usize,
+    proof: &mut [u8],
+    at: Passed,
+) -> Passed
+    requires { ⌜ Lists (now text) pair × PassRoom (length (now proof)) at (linesPerGate * (pair .left + pair .right))
+        × (start + linkWidth * (1 + pair .inputs + pair .left + pair .right) ≤ length (now work)) × (at .next ≡ 2) ⌝ }
+    ensures few { λ r. ⌜ (r .lines ≤ at .lines + linesPerGate * (pair .left + pair .right)) × (r .clauses ≤ at .clauses + linesPerGate * (pair .left + pair .right)) ⌝ }
+    ensures done { λ r. ⌜ ((w : Lists (now (text .entry)) pair) (t : List Entry) → Known (now (work .entry)) start t (startLinks (pair .inputs))
+        → length t ≡ 1 + pair .inputs + pair .left + pair .right → AllDone (now (proof .entry)) at (now (proof .exit)) (now (work .exit)) start r t (w .left) (w .right)) ⌝ }
+{
+    let first = 1 + pair.inputs;
+    let total = pair.left + pair.right;
+    let mut done = at;
+    let mut i: usize = 0;
+    while i < total {
+        let gate = gate_of(text, pair, i);
+        done = one_gate(work, start, proof, done, first + i, gate);
+        i += 1;
+    }
+    done
+}
+
+// The lines of a proof for both lists, from the table of the first pass; their number.
+pub fn emit(text: &[u8], pair: Pair, work: &mut [u16], proof: &mut [u8]) -> usize
+    requires { ⌜ Lists (now text) pair × (proofLineBytes * (linesPerGate * (pair .left + pair .right) + linesPerOutput * pair .outputs) ≤ length (now proof))
+        × (numbersPerNet * (1 + pair .inputs + pair .left + pair .right) ≤ length (now work)) ⌝ }
+    ensures { λ r. ⌜ ((w : Lists (now (text .entry)) pair) → Holds (now (work .entry)) (bothTable (w .left) (w .right)) → Written (now (proof .entry)) []
+        → Written (now (proof .exit)) (linesOf (w .left) (w .right)) × (r ≡ length (linesOf (w .left) (w .right)))) ⌝ }
+{
+    let nets = 1 + pair.inputs + pair.left + pair.right;
+    let start = ROW * nets;
+    let outs = pair.outputs as u16;
+    let z = first_z_clause(text, pair);
+    let last = z + 4 * outs + 3 * (outs - 1);
+    start_links(work, start, pair.inputs);
+    let begin = Passed {
+        lines: 0,
+        clauses: last,
+        next: 2,
+    };
+    let done = gates(text, pair, work, start, proof, begin);
+    let end = Derived {
+        lines: done.lines,
+        clauses: done.clauses,
+        clause: 0,
+    };
+    let all = outputs(text, pair, work, start, proof, end, z);
+    all.lines
 }
