@@ -1,28 +1,37 @@
 -- One gate after the other: the numbers that are kept of it, and what is left of the loop.
 use Prim.Native.Nat.{ℕ, suc, _+_, _*_, _<_}
-use mathlib.Core.Path.{_≡_, sym, ap, _∙_, subst}
+use mathlib.Core.Path.{_≡_, refl, sym, ap, _∙_, subst}
 use mathlib.Core.Bool.{Bool, true, false, true≢false}
-use mathlib.Core.List.{List, [], _∷_, _++_}
+use mathlib.Core.List.{List, [], _∷_, _++_, append-assoc, append-nil}
 use native.Mathlib.Omega.{arith}
-use lib.ListN.{length, getD, length-append}
+use native.Mathlib.Numerals.{add-one}
+use lib.ListN.{length, drop, getD, length-append, length-replicate, drop-of-length-le}
+use lib.Seq.{drop-cons}
 use borrow.Author.Tests.{ne-eqb}
 use Rattle.model.specs.Answers.{filled}
-use Rattle.model.specs.Nets.{Gate, netOf, odd}
+use Rattle.model.specs.Nets.{Gate, Netlist, netOf, odd, readsBelow}
+use Rattle.model.specs.Miter.{firstGate, gatesOf}
+use Rattle.laws.specs.Pairs as pairs
 use Rattle.laws.specs.Pairs.{isXor}
+use Rattle.laws.specs.ListText.{ordered-at}
+use Rattle.laws.specs.MiterOrder.{ordered-gates}
 use Rattle.fold_laws.specs.Table.{Entry, repOf}
-use Rattle.emit_laws.specs.Trees.{Tree, sizes, lays, length-lays}
+use Rattle.emit_laws.specs.Replay.{Resolution}
+use Rattle.emit_laws.specs.Trees.{Tree, sizes, nums, lays, length-lays}
 use Rattle.emit_laws.specs.Gates.{Literals, ClauseNumbers, linkOf, normal, normalNumbers, trees, over-normal}
-use Rattle.emit_laws.specs.Place.{clauseCount}
-use Rattle.emit_laws.specs.Loop.{from, gateTrees}
+use Rattle.emit_laws.specs.Place.{clauseCount, behind, firstZClause}
+use Rattle.emit_laws.specs.Loop.{slots, from, gateTrees, sign, loop}
+use Rattle.emit_laws.specs.Emit.{startLinks}
+use Rattle.netlist.specs.Again.{noGate}
 use Rattle.table.specs.Rows.{Holds}
 use Rattle.table.specs.Links.{linkWidth, Keeps}
 use Rattle.emit.specs.declared.pass.Passed.{Passed}
 use Rattle.emit.specs.declared.gates.Defined.{Defined}
 use Rattle.emit.specs.declared.lines.Derived.{Derived}
 use Rattle.emit.specs.declared.kept.Kept.{Kept}
-use Rattle.emit.specs.Emission.{EmitsAll}
+use Rattle.emit.specs.Emission.{Written, EmitsAll}
 use Rattle.emit.specs.Known.{Known, Next, literalsOf, numbersOf, keptOf}
-use Rattle.emit.specs.Pass.{EmitsGate, GateDone, settledOdd, settledTrees}
+use Rattle.emit.specs.Pass.{EmitsGate, Adds, GateDone, AllDone, gatesDone, settledOdd, settledTrees}
 
 -- ---- the numbers of a gate
 
@@ -108,4 +117,92 @@ module _ (p q work more : List ℕ) (start : ℕ) (s r : Passed) (end : Derived)
               laws = known .laws;
             };
         next = next;
+      }
+
+-- ---- the gates done so far, and what is left
+
+-- one gate, and then the others
+step-lines : (R : ℕ → ℕ) (links : List (List ℕ)) (n k v : ℕ) (g : Gate) (gs : List Gate)
+    → (loop R links n k v (g ∷ gs) .lines
+    ≡ lays n (gateTrees R links k v g)
+    ++ loop R (links ++ (slots (sign R v g) (nums n (gateTrees R links k v g)) ∷ [])) (n + sizes (gateTrees R links k v g)) (k + clauseCount (g .op)) (suc v) gs .lines)
+    × (loop R links n k v (g ∷ gs) .links
+    ≡ loop R (links ++ (slots (sign R v g) (nums n (gateTrees R links k v g)) ∷ [])) (n + sizes (gateTrees R links k v g)) (k + clauseCount (g .op)) (suc v) gs .links)
+unfolding loop
+step-lines R links n k v g gs = (refl, refl)
+
+-- lines, and then others behind them
+adds-then : {p q m : List ℕ} {s d r : Passed} {ls rs : List Resolution} → Adds p s q d ls → Adds q d m r rs → Adds p s m r (ls ++ rs)
+adds-then {m = m} {s} {d} {r} {ls} {rs} f g =
+    record {
+      written = λ xs w n.
+          subst (Written m) (append-assoc xs ls rs) (g .written (xs ++ ls) (f .written xs w n) (length-append xs ls ∙ ap (λ (k : ℕ). k + length ls) n ∙ sym (f .lines)));
+      lines = rw length-append (omega (arith, f .lines, g .lines));
+      clauses = rw length-append (omega (arith, f .clauses, g .clauses));
+    }
+
+-- the whole of the gates is the lines that were written, and then those of the gates from i on
+pub record UpTo (p : List ℕ) (s : Passed) (q work : List ℕ) (start : ℕ) (r : Passed) (t : List Entry) (a b : Netlist) (i : ℕ) : Type 0 where
+  pub lines : List Resolution
+  pub links : List (List ℕ)
+  pub adds : Adds p s q r lines
+  pub known : Known work start t links
+  pub long : length links ≡ firstGate a + i
+  pub whole-lines : gatesDone t a b (s .clauses) .lines
+      ≡ lines ++ loop (repOf t) links (r .clauses) (r .next) (firstGate a + i) (drop i (gatesOf a b)) .lines
+  pub whole-links : gatesDone t a b (s .clauses) .links ≡ loop (repOf t) links (r .clauses) (r .next) (firstGate a + i) (drop i (gatesOf a b)) .links
+  pub next : firstZClause a b ≡ behind (r .next) (drop i (gatesOf a b))
+
+module _ (p : List ℕ) (s : Passed) (start : ℕ) (t : List Entry) (a b : Netlist) where
+  pub up-to-none : (work : List ℕ) → Known work start t (startLinks (a .inputs)) → s .next ≡ 2 → UpTo p s p work start s t a b 0
+  unfolding firstZClause
+  up-to-none work k e =
+      let z : firstGate a + 0 ≡ firstGate a = omega arith in
+      record {
+        lines = [];
+        links = startLinks (a .inputs);
+        adds = record { written = λ rs w n. rw (append-nil rs) w; lines = omega arith; clauses = omega arith };
+        known = k;
+        long = rw (length-replicate {A = List ℕ} (a .inputs) []) (omega arith);
+        whole-lines = rw (z, e);
+        whole-links = rw (z, e);
+        next = rw e;
+      }
+
+  pub up-to-next : (q m work more : List ℕ) (d r : Passed) (i v : ℕ) (g : Gate) → i < length (gatesOf a b) → g ≡ getD (gatesOf a b) i noGate → v ≡ firstGate a + i
+      → (u : UpTo p s q work start d t a b i) → GateDone q d m more start r t (u .links) v g → UpTo p s m more start r t a b (i + 1)
+  up-to-next q m work more d r i v g h is e u f =
+      let R = repOf t in
+      let gs = gatesOf a b in
+      let ts : List Tree = gateTrees R (u .links) (d .next) v g in
+      let kept : List ℕ = slots (sign R v g) (nums (d .clauses) ts) in
+      let c : r .clauses ≡ d .clauses + sizes ts = f .adds .clauses ∙ ap (λ (n : ℕ). d .clauses + n) (length-lays (d .clauses) ts) in
+      let n : firstGate a + (i + 1) ≡ suc v = omega arith in
+      let rest : drop i gs ≡ g ∷ drop (i + 1) gs = rw (add-one, is) (drop-cons gs i noGate h) in
+      let one = step-lines R (u .links) (d .clauses) (d .next) v g (drop (i + 1) gs) in
+      record {
+        lines = u .lines ++ lays (d .clauses) ts;
+        links = u .links ++ (kept ∷ []);
+        adds = adds-then (u .adds) (f .adds);
+        known = f .known;
+        long = rw (length-append, u .long) (omega arith);
+        whole-lines = u .whole-lines ∙ rw (← e, rest, one .0, c, f .next, n, append-assoc (u .lines));
+        whole-links = u .whole-links ∙ rw (← e, rest, one .1, c, f .next, n);
+        next = u .next ∙ rw (rest, f .next);
+      }
+
+  -- the gate reads nets that are done
+  pub reads-done : pairs.Pair a b → (i v : ℕ) (g : Gate) → i < length (gatesOf a b) → g ≡ getD (gatesOf a b) i noGate → v ≡ firstGate a + i → readsBelow v g ≡ true
+  reads-done ab i v g h is e = rw (e, is) (ordered-at (firstGate a) (gatesOf a b) i noGate (ordered-gates a b ab) h)
+
+  pub up-to-all : (q work : List ℕ) (r : Passed) (i : ℕ) → i ≡ length (gatesOf a b) → UpTo p s q work start r t a b i → AllDone p s q work start r t a b
+  unfolding loop
+  up-to-all q work r i e u =
+      let none : drop i (gatesOf a b) ≡ [] = drop-of-length-le (gatesOf a b) {i = i} (omega arith) in
+      let l = rw none at (u .whole-links) in
+      record {
+        adds = rw (u .whole-lines, none, append-nil (u .lines)) (u .adds);
+        known = rw l (u .known);
+        nets = rw l (u .long ∙ ap (λ (n : ℕ). firstGate a + n) e);
+        next = sym (rw none at (u .next));
       }
