@@ -1,5 +1,5 @@
 -- One gate after the other: the numbers that are kept of it, and what is left of the loop.
-use Prim.Native.Nat.{ℕ, suc, _+_, _*_, _<_}
+use Prim.Native.Nat.{ℕ, suc, _+_, _*_, _<_, _≤_}
 use mathlib.Core.Path.{_≡_, refl, sym, ap, _∙_, subst}
 use mathlib.Core.Bool.{Bool, true, false, true≢false}
 use mathlib.Core.List.{List, [], _∷_, _++_, append-assoc, append-nil}
@@ -16,20 +16,23 @@ use Rattle.laws.specs.Pairs.{isXor}
 use Rattle.laws.specs.ListText.{ordered-at}
 use Rattle.laws.specs.MiterOrder.{ordered-gates}
 use Rattle.fold_laws.specs.Table.{Entry, repOf}
+use Rattle.fold_laws.specs.Facts.{Laws, table-facts}
+use Rattle.fold_laws.specs.Engine.{bothTable}
+use Rattle.fold_laws.specs.Entries.{length-table}
 use Rattle.emit_laws.specs.Replay.{Resolution}
-use Rattle.emit_laws.specs.Trees.{Tree, sizes, nums, lays, length-lays}
+use Rattle.emit_laws.specs.Trees.{Tree, size, lay, length-lay, sizes, nums, lays, length-lays}
 use Rattle.emit_laws.specs.Gates.{Literals, ClauseNumbers, linkOf, normal, normalNumbers, trees, over-normal}
-use Rattle.emit_laws.specs.Place.{clauseCount, behind, firstZClause}
+use Rattle.emit_laws.specs.Place.{clauseCount, behind, firstZClause, lastNumber}
 use Rattle.emit_laws.specs.Loop.{slots, from, gateTrees, sign, loop}
-use Rattle.emit_laws.specs.Emit.{startLinks}
+use Rattle.emit_laws.specs.Emit.{startLinks, gateLines, lastTree, emit}
 use Rattle.netlist.specs.Again.{noGate}
-use Rattle.table.specs.Rows.{Holds}
+use Rattle.table.specs.Rows.{rowWidth, Holds}
 use Rattle.table.specs.Links.{linkWidth, Keeps}
 use Rattle.emit.specs.declared.pass.Passed.{Passed}
 use Rattle.emit.specs.declared.gates.Defined.{Defined}
 use Rattle.emit.specs.declared.lines.Derived.{Derived}
 use Rattle.emit.specs.declared.kept.Kept.{Kept}
-use Rattle.emit.specs.Emission.{Written, EmitsAll}
+use Rattle.emit.specs.Emission.{Written, Emits, EmitsAll}
 use Rattle.emit.specs.Known.{Known, Next, literalsOf, numbersOf, keptOf}
 use Rattle.emit.specs.Pass.{EmitsGate, Adds, GateDone, AllDone, gatesDone, settledOdd, settledTrees}
 
@@ -206,3 +209,35 @@ module _ (p : List ℕ) (s : Passed) (start : ℕ) (t : List Entry) (a b : Netli
         nets = rw l (u .long ∙ ap (λ (n : ℕ). firstGate a + n) e);
         next = sym (rw none at (u .next));
       }
+
+-- ---- gates and outputs
+
+-- what is known of both lists' table before the first gate
+pub known-first : (a b : Netlist) → pairs.Pair a b → (work : List ℕ) (start : ℕ) → Holds work (bothTable a b) → rowWidth * length (bothTable a b) ≤ start
+    → Keeps work start (startLinks (a .inputs)) → Known work start (bothTable a b) (startLinks (a .inputs))
+known-first a b ab work start rows h keeps =
+    let n = length-table (a .inputs) (gatesOf a b) in
+    record {
+      rows = rows;
+      behind-rows = h;
+      numbers = keeps;
+      nets = rw (length-replicate {A = List ℕ} (a .inputs) []) (omega (arith, n));
+      laws = subst (Laws (bothTable a b)) (sym n) (table-facts (a .inputs) (gatesOf a b) (ordered-gates a b ab) .laws);
+    }
+
+-- all lines of both lists: those of the gates, and then those of the outputs' tree
+pub emitted : (p q m work : List ℕ) (start : ℕ) (s done : Passed) (end all : Derived) (t : List Entry) (a b : Netlist) → s .lines ≡ 0 → s .clauses ≡ lastNumber a b
+    → end .lines ≡ done .lines → end .clauses ≡ done .clauses → AllDone p s q work start done t a b
+    → Emits q end m all (lastTree (repOf t) (gatesDone t a b (s .clauses) .links) a b) → Written p []
+    → Written m (emit (repOf t) a b) × (all .lines ≡ length (emit (repOf t) a b))
+unfolding emit gateLines
+emitted p q m work start s done end all t a b z n el ec f g w =
+    let r = gatesDone t a b (lastNumber a b) in
+    let tree : Tree = lastTree (repOf t) (r .links) a b in
+    let ls = rw n at (f .adds .clauses) in
+    let dl : done .lines ≡ length (r .lines) = (rw n at (f .adds .lines)) ∙ omega (arith, z) in
+    let c : end .clauses ≡ lastNumber a b + length (r .lines) = ec ∙ ls in
+    let one : Written q (r .lines) = (rw n at (f .adds .written [] w (sym z))) in
+    let two = rw (n, c) at (g .written (r .lines) one (sym dl ∙ sym el)) in
+    let h : length (r .lines ++ lay (lastNumber a b + length (r .lines)) tree) ≡ length (r .lines) + size tree = rw (length-append, length-lay) in
+    (two, (rw n at (g .lines)) ∙ ap (λ (x : ℕ). x + size tree) (el ∙ dl) ∙ sym h)

@@ -16,6 +16,7 @@ use Rattle.laws.specs.ListText.{ordered-at, below-at}
 use Rattle.laws.specs.Pairs as pairs
 use Rattle.laws.specs.MiterOrder.{length-gates, ordered-gates, shift-below}
 use Rattle.fold_laws.specs.Table as model
+use Rattle.fold_laws.specs.Entries.{length-bases, length-table}
 use Rattle.fold_laws.specs.Engine.{movedTo, bothTable, repsApart, byReps}
 use Rattle.netlist.specs.declared.again.Gate as again
 use Rattle.netlist.specs.Again.{gateMeant, noGate}
@@ -28,11 +29,6 @@ use Rattle.table.specs.Rows.{Holds}
 pub holds-none : (work : List ℕ) → Holds work (model.bases 0 0)
 unfolding model.bases
 holds-none work = record { room = omega arith; number = λ u i h. absurd (omega arith) }
-
-pub length-bases : (j k : ℕ) → length (model.bases j k) ≡ k
-unfolding model.bases
-length-bases j zero = refl
-length-bases j (suc k) = ap suc (length-bases (suc j) k)
 
 bases-next : (j k : ℕ) → model.bases j (suc k) ≡ model.bases j k ++ (model.baseEntry (j + k) ∷ [])
 unfolding model.bases
@@ -64,14 +60,6 @@ module _ (i : ℕ) (gs : List Gate) where
   pub after-all : (k : ℕ) → length gs ≤ k → after i gs k ≡ model.tableOf i gs
   unfolding model.tableOf
   after-all k h = rw (take-all k gs h)
-
--- the table of both lists
-pub length-table : (a b : Netlist) (ab : pairs.Pair a b) → length (bothTable a b) ≡ 1 + a .inputs + length (a .gates) + length (b .gates)
-length-table a b ab =
-    let n = length-gates a b ab in
-    ap length (sym (after-all (a .inputs) (gatesOf a b) (length (gatesOf a b)) (omega arith)))
-    ∙ after-length (a .inputs) (gatesOf a b) (length (gatesOf a b)) (omega arith)
-    ∙ omega (arith, n)
 
 -- gate k entered behind the nets before it
 pub gate-entered : (a b : Netlist) → pairs.Pair a b → (k v : ℕ) (g : Gate) (e : model.Entry) (work more : List ℕ) → k < length (gatesOf a b) → v ≡ 1 + a .inputs + k
@@ -128,7 +116,8 @@ outputs-at a b ab k g h e =
     let x : g .x ≡ getD (a .outs) k 0 = ap (λ (g : Gate). g .x) m in
     let y : g .y ≡ movedTo a (getD (b .outs) k 0) = ap (λ (g : Gate). g .y) m in
     let i : k < length (b .outs) = omega (arith, ab .outs) in
-    let n = length-table a b ab in
+    let n = length-table (a .inputs) (gatesOf a b) in
+    let m = length-gates a b ab in
     let l = below-at (size a) (a .outs) k (ab .left .below) h in
     let r = shift-below (a .inputs) (length (a .gates)) (getD (b .outs) k 0) (size b) (below-at (size b) (b .outs) k (ab .right .below) i) in
     record {

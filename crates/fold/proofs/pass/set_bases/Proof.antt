@@ -4,8 +4,9 @@ use mathlib.Core.Path.{_≡_, refl, sym, _∙_, subst}
 use native.Mathlib.Omega.{arith}
 use lib.ListN.{length}
 use Rattle.fold_laws.specs.Table as model
+use Rattle.fold_laws.specs.Entries.{length-bases}
 use Rattle.table.specs.Rows.{Holds}
-use Rattle.fold.proofs.PassLaws.{holds-none, length-bases, bases-more}
+use Rattle.fold.proofs.PassLaws.{holds-none, bases-more}
 use borrow.Author.Needs.{needs}
 use Rattle.fold.proofs.pass.set_bases.Statement.{statement}
 use Rattle.fold.proofs.pass.set_bases.Tie as tie
