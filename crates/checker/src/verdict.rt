@@ -25,7 +25,7 @@ fn capacity(numbers: usize) -> usize
 }
 
 // The refusal of two lists, to be handed upward.
-fn refusal(lists: Both) -> Refusal
+pub fn refusal(lists: Both) -> Refusal
     ensures { λ r. ⌜ r ≡ bothRefusal lists ⌝ }
 {
     match lists {

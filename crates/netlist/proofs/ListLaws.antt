@@ -178,19 +178,22 @@ module _ (text : List ℕ) (k : Counts) (next : Cursor) (a : PartRead text (reco
 
 -- ---- two lists, and nothing behind them
 
-pub pair-refused : (text : List ℕ) (r : Refusal) → readBoth text ≡ answerOf r → answerOf r ≡ pairOf (readLists text)
+pub lists-refused : (text : List ℕ) (r : Refusal) → readBoth text ≡ answerOf r → readLists text ≡ answerOf r
 unfolding readLists
-pair-refused text r e = rw e
+lists-refused text r e = rw e
 
 module _ (text : List ℕ) (p : Pair) (a : BothRead text p) where
-  pub both-is : readBoth text ≡ ok (record { lists = record { left = a .left .list; right = a .right .list }; line = p .next .line; rest = from text (p .next) })
+  both-is : readBoth text ≡ ok (record { lists = record { left = a .left .list; right = a .right .list }; line = p .next .line; rest = from text (p .next) })
   unfolding readBoth
   both-is = rw (a .first, a .second, a .right-listed .line, a .right-listed .rest)
 
-  pub pair-more : (r : Refusal) → endAt (from text (p .next)) (p .next .line) ≡ answerOf r → answerOf r ≡ pairOf (readLists text)
+  pub lists-more : (r : Refusal) → endAt (from text (p .next)) (p .next .line) ≡ answerOf r → readLists text ≡ answerOf r
   unfolding readLists
-  pair-more r e = rw (both-is, e)
+  lists-more r e = rw (both-is, e)
 
-  pub pair-read : endAt (from text (p .next)) (p .next .line) ≡ ok tt → ok (record { inputs = p .inputs; left = p .left; right = p .right; outputs = p .outputs }) ≡ pairOf (readLists text)
+  pub lists-alone : endAt (from text (p .next)) (p .next .line) ≡ ok tt → readLists text ≡ ok (record { left = a .left .list; right = a .right .list })
   unfolding readLists
-  pair-read e = rw (both-is, e, a .left-listed .inputs, a .left-listed .gates, a .left-listed .outputs, a .right-listed .gates)
+  lists-alone e = rw (both-is, e)
+
+  pub pair-counts : ok (record { inputs = p .inputs; left = p .left; right = p .right; outputs = p .outputs }) ≡ pairOf (ok (record { left = a .left .list; right = a .right .list }))
+  pair-counts = rw (a .left-listed .inputs, a .left-listed .gates, a .left-listed .outputs, a .right-listed .gates)

@@ -11,7 +11,7 @@ use Rattle.model.specs.Answers.Answer.{ok, refused}
 use Rattle.model.specs.Lines as model
 use Rattle.model.specs.Frames.{endAt}
 use Rattle.model.specs.Nets.{Gate, Netlist, size}
-use Rattle.model.specs.Lists.{ListRead, addGate, addOutput, emptyList, readOutputs, readGates, readList, anyHeader, likeLeft, Lists, ListsRead, readBoth}
+use Rattle.model.specs.Lists.{ListRead, addGate, addOutput, emptyList, readOutputs, readGates, readList, anyHeader, likeLeft, Lists, ListsRead, readBoth, readLists}
 use Rattle.frame.specs.declared.Cursor.{Cursor}
 use Rattle.frame.specs.declared.Line.{Line}
 use Rattle.frame.specs.declared.Line.the-variants.{Read, End, Refused}
@@ -186,6 +186,15 @@ pub record BothRead (text : List ℕ) (p : Pair) : Type 0 where
 abbrev pub BothSays : List ℕ → both.Both → Type 0
 BothSays text (both-case.Paired p) = BothRead text p
 BothSays text (both-case.Refused r) = readBoth text ≡ answerOf r
+
+-- Both lists and nothing behind them, or why not.
+pub record ListsFound (text : List ℕ) (p : Pair) : Type 0 where
+  pub both : BothRead text p
+  pub alone : readLists text ≡ ok (record { left = both .left .list; right = both .right .list })
+
+abbrev pub ListsSays : List ℕ → both.Both → Type 0
+ListsSays text (both-case.Paired p) = ListsFound text p
+ListsSays text (both-case.Refused r) = readLists text ≡ answerOf r
 
 -- ---- the calls' replies: counts, or a refusal
 

@@ -10,7 +10,7 @@ use lines::read_header;
 ghost use mathlib.Core.Path.{_≡_};
 ghost use Rattle.frame.specs.Frames.{Inside};
 ghost use Rattle.model.specs.Lists.{readOne, readLists};
-ghost use Rattle.netlist.specs.Says.{PartSays, RightSays, BothSays, partRefusal, behindRefusal, countsReply, pairReply, countsOf, pairOf};
+ghost use Rattle.netlist.specs.Says.{PartSays, RightSays, BothSays, ListsSays, partRefusal, behindRefusal, countsReply, pairReply, countsOf, pairOf};
 
 pub struct Refusal {
     pub number: u8,
@@ -150,7 +150,8 @@ pub fn read_list(text: &[u8]) -> Part
 
 // The engine's text: two lists, and nothing behind them.
 pub fn read_lists(text: &[u8]) -> Both
-    ensures { λ r. ⌜ pairReply r ≡ pairOf (readLists (now (text .entry))) ⌝ }
+    ensures replies { λ r. ⌜ pairReply r ≡ pairOf (readLists (now (text .entry))) ⌝ }
+    ensures finds { λ r. ⌜ ListsSays (now (text .entry)) r ⌝ }
 {
     let both = read_both(text);
     let Both::Paired(pair) = both else {

@@ -1,6 +1,8 @@
 -- Both lists' answer and then the end's (`ListLaws`).
+use mathlib.Core.Path.{sym, ap, _∙_}
 use denote.Ref.{now}
-use Rattle.netlist.proofs.ListLaws.{pair-refused, pair-more, pair-read}
+use Rattle.netlist.specs.Says.{pairOf}
+use Rattle.netlist.proofs.ListLaws.{lists-refused, lists-more, lists-alone, pair-counts}
 use borrow.Author.Needs.{needs}
 use Rattle.netlist.proofs.read_lists.Statement.{statement}
 use Rattle.netlist.proofs.read_lists.Tie as tie
@@ -23,7 +25,8 @@ returns : tie.Need-returns
 returns c =
     let a = c .before .before .before .before .args in
     let is = c .enum-told .given .1 in
-    rw is (pair-refused (now (a .text)) _ (rw is at (c .before .before .read-both .ensures)))
+    let e = lists-refused (now (a .text)) _ (rw is at (c .before .before .read-both .ensures)) in
+    rw is (sym (ap pairOf e), e)
 
 read-end-requires : tie.Need-read-end-requires
 read-end-requires c κs = (rw (c .before .before .both .given .1) at (c .before .before .before .before .read-both .ensures)) .inside
@@ -42,13 +45,15 @@ returns-2 c =
     let a = c .before .before .before .before .before .before .before .before .before .before .args in
     let l = rw (c .before .before .before .before .before .before .both .given .1) at (c .before .before .before .before .before .before .before .before .read-both .ensures) in
     let is = c .before .enum-told3 .given .1 in
-    rw (c .refusal .ensures, is) (pair-more (now (a .text)) _ l _ (rw is at (c .before .before .before .read-end .ensures)))
+    let e = lists-more (now (a .text)) _ l _ (rw is at (c .before .before .before .read-end .ensures)) in
+    rw (c .refusal .ensures, is) (sym (ap pairOf e), e)
 
 returns-3 : tie.Need-returns-3
 returns-3 c =
     let a = c .before .before .before .before .before .before .before .before .before .args in
     let l = rw (c .before .before .before .before .before .both .given .1) at (c .before .before .before .before .before .before .before .read-both .ensures) in
-    pair-read (now (a .text)) _ l (rw (c .enum-told2 .given .1) at (c .before .before .read-end .ensures))
+    let e = lists-alone (now (a .text)) _ l (rw (c .enum-told2 .given .1) at (c .before .before .read-end .ensures)) in
+    (pair-counts (now (a .text)) _ l ∙ sym (ap pairOf e), record { both = l; alone = e })
 
 pub read-lists-spec : {M : Type 1} → statement M
 read-lists-spec =

@@ -1,0 +1,79 @@
+// The engine (document 01, 'Folded form and the engine'): two lists in, a proof that they agree out, exactly when each output pair has the
+// same folded form. The first pass folds, the outputs are compared, and the second pass writes the proof.
+use checker::clearing::clear_from;
+use checker::verdict::refusal;
+use emit::pass::emit;
+use fold::pass::first_apart;
+use fold::pass::fold;
+use frame::fields::clear;
+use netlist::Both;
+use netlist::Refusal;
+use netlist::read_lists;
+ghost use mathlib.Core.Path.{_≡_};
+ghost use lib.ListN.{length};
+ghost use Rattle.model.specs.Engine as model;
+ghost use Rattle.engine.specs.Replies.{provedOf, AnswerSays};
+
+// The number of the proof's lines, or the refusal.
+pub enum Proved {
+    Lines(usize),
+    Refused(Refusal),
+}
+
+const LINE_BYTES: usize = 15;
+
+const LINES_PER_GATE: usize = 16;
+
+const LINES_PER_OUTPUT: usize = 12;
+
+const NUMBERS_PER_NET: usize = 16;
+
+// The answer, with the working numbers in use; where there is a proof, its lines stand in the proof bytes.
+fn answer(text: &[u8], proof: &mut [u8], work: &mut [u16]) -> Proved
+    ensures { λ r. ⌜ AnswerSays (now (text .entry)) (length (now (proof .entry))) (length (now (work .entry))) (now (proof .exit)) r ⌝ }
+{
+    let lists = read_lists(text);
+    let Both::Paired(pair) = lists else {
+        return Proved::Refused(refusal(lists));
+    };
+    let gates = pair.left + pair.right;
+    let bound = LINES_PER_GATE * gates + LINES_PER_OUTPUT * pair.outputs;
+    if proof.len() < LINE_BYTES * bound {
+        return Proved::Refused(Refusal {
+            number: 16,
+            line: 0,
+        });
+    }
+    if work.len() < NUMBERS_PER_NET * (1 + pair.inputs + gates) {
+        return Proved::Refused(Refusal {
+            number: 17,
+            line: 0,
+        });
+    }
+    fold(text, pair, work);
+    let apart = first_apart(text, pair, work);
+    if apart != 0 {
+        return Proved::Refused(Refusal {
+            number: 18,
+            line: apart,
+        });
+    }
+    clear(proof);
+    Proved::Lines(emit(text, pair, work, proof))
+}
+
+// A proof for the two lists of a text, from the start of the proof bytes with zeros behind; or a refusal of the text, 16, 17, or 18 with the
+// first output whose forms differ. The working numbers end as zeros, after a refusal the proof bytes too.
+pub fn prove(text: &[u8], proof: &mut [u8], work: &mut [u16]) -> Proved
+    ensures { λ r. ⌜ model.Engine (now (text .entry)) (length (now (proof .entry))) (length (now (work .entry))) (provedOf r) (now (proof .exit)) (now (work .exit)) ⌝ }
+{
+    let answered = answer(text, proof, work);
+    clear_from(work, 0);
+    match answered {
+        Proved::Lines(n) => Proved::Lines(n),
+        Proved::Refused(r) => {
+            clear(proof);
+            Proved::Refused(r)
+        }
+    }
+}
