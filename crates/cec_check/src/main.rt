@@ -2,9 +2,10 @@
 mod report; // a stream's report
 
 use libc::STDERR_FILENO;
-use libc::STDIN_FILENO;
 use libc::STDOUT_FILENO;
 use report::report;
+use streams::Stream;
+use streams::read_stream;
 ghost use mathlib.Core.Path.{_≡_};
 ghost use lib.ListN.{length};
 
@@ -15,22 +16,15 @@ fn room() -> [u8; 65537]
     [0; 65537]
 }
 
-// Whether nothing follows what was read. A read that failed before, by an error or a signal, is seen here: it is no end.
-fn ended() -> bool {
-    let mut next = [0u8; 1];
-    libc::read(STDIN_FILENO, &mut next) == 0
-}
-
 fn main() {
     let mut stream = room();
-    let n = io::read_full(STDIN_FILENO, &mut stream);
-    if n < stream.len() && !ended() {
+    let Stream::Read(n) = read_stream(&mut stream) else {
         io::write_all(
             STDERR_FILENO,
             b"cec_check: standard input was not read to its end\n",
         );
         return;
-    }
+    };
     let line = report(&stream[..n]);
     io::write_all(STDOUT_FILENO, &line);
 }

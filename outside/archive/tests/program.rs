@@ -243,7 +243,6 @@ fn unreadable_standard_input_has_no_report() {
 
 /// The whole bench sample comes, and then a reset and no end.
 #[test]
-#[ignore = "the program takes a read error that is given once for the end"]
 fn a_stream_that_breaks_off_has_no_report() {
     let (mut writer, mut reader) = UnixStream::pair().expect("there are sockets");
     let sample = bench(&PROOF);
