@@ -7,12 +7,14 @@ use fold::pass::first_apart;
 use fold::pass::fold;
 use frame::fields::clear;
 use netlist::Both;
+use netlist::Pair;
 use netlist::Refusal;
 use netlist::read_lists;
 ghost use mathlib.Core.Path.{_≡_};
 ghost use lib.ListN.{length};
 ghost use Rattle.model.specs.Engine as model;
-ghost use Rattle.engine.specs.Replies.{provedOf, AnswerSays};
+ghost use Rattle.engine.specs.Replies.{provedOf, listsOf, FoldedSays, AnswerSays};
+ghost use Rattle.checker.specs.Miters.{Lists};
 
 // The number of the proof's lines, or the refusal.
 pub enum Proved {
@@ -28,14 +30,11 @@ const LINES_PER_OUTPUT: usize = 12;
 
 const NUMBERS_PER_NET: usize = 16;
 
-// The answer, with the working numbers in use; where there is a proof, its lines stand in the proof bytes.
-fn answer(text: &[u8], proof: &mut [u8], work: &mut [u16]) -> Proved
-    ensures { λ r. ⌜ AnswerSays (now (text .entry)) (length (now (proof .entry))) (length (now (work .entry))) (now (proof .exit)) r ⌝ }
+// The answer to both lists, where they were read: memory is tested, then the first pass is made and the outputs compared, then the second.
+fn folded(text: &[u8], pair: Pair, proof: &mut [u8], work: &mut [u16]) -> Proved
+    requires { ⌜ Lists (now text) pair ⌝ }
+    ensures { λ r. ⌜ ((w : Lists (now (text .entry)) pair) → FoldedSays (listsOf w) (length (now (proof .entry))) (length (now (work .entry))) (now (proof .exit)) r) ⌝ }
 {
-    let lists = read_lists(text);
-    let Both::Paired(pair) = lists else {
-        return Proved::Refused(refusal(lists));
-    };
     let gates = pair.left + pair.right;
     let bound = LINES_PER_GATE * gates + LINES_PER_OUTPUT * pair.outputs;
     if proof.len() < LINE_BYTES * bound {
@@ -60,6 +59,17 @@ fn answer(text: &[u8], proof: &mut [u8], work: &mut [u16]) -> Proved
     }
     clear(proof);
     Proved::Lines(emit(text, pair, work, proof))
+}
+
+// The answer, with the working numbers in use; where there is a proof, its lines stand in the proof bytes.
+fn answer(text: &[u8], proof: &mut [u8], work: &mut [u16]) -> Proved
+    ensures { λ r. ⌜ AnswerSays (now (text .entry)) (length (now (proof .entry))) (length (now (work .entry))) (now (proof .exit)) r ⌝ }
+{
+    let lists = read_lists(text);
+    let Both::Paired(pair) = lists else {
+        return Proved::Refused(refusal(lists));
+    };
+    folded(text, pair, proof, work)
 }
 
 // A proof for the two lists of a text, from the start of the proof bytes with zeros behind; or a refusal of the text, 16, 17, or 18 with the

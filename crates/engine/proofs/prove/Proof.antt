@@ -1,3 +1,10 @@
+-- The promise from the answer: the proof's lines stay, or zeros come everywhere (`AnswerLaws`).
+use mathlib.Core.Path.{_≡_, ap, _∙_}
+use denote.Ref.{now}
+use lib.ListN.{length}
+use Rattle.model.specs.Answers.{zeros}
+use Rattle.checker.proofs.VerdictLaws.{cleared}
+use Rattle.engine.proofs.AnswerLaws.{keeps-refusal, keeps-proof}
 use borrow.Author.Needs.{needs}
 use Rattle.engine.proofs.prove.Statement.{statement}
 use Rattle.engine.proofs.prove.Tie as tie
@@ -7,49 +14,52 @@ use Rattle.checker.proofs.clearing.clear_from.Reads as clear-from-reads
 use Rattle.engine.proofs.answer.Reads as answer-reads
 use Rattle.frame.proofs.fields.clear.Reads as clear-reads
 
--- src/lib.rt:70:9
 answer-requires : tie.Need-answer-requires
 answer-requires c κs = search needs
 
--- src/lib.rt:71:5
 clear-from-requires : tie.Need-clear-from-requires
 clear-from-requires c κs = search needs
 
--- src/lib.rt:73:23
 enum-known-answered : tie.Need-enum-known-answered
 enum-known-answered c = search needs
 
--- src/lib.rt:74:25
 enum-known-answered-2 : tie.Need-enum-known-answered-2
 enum-known-answered-2 c = search needs
 
--- src/lib.rt:75:13
 clear-requires : tie.Need-clear-requires
 clear-requires c κs = search needs
 
--- src/lib.rt:67:1
 same-length : tie.Need-same-length
 same-length c = search needs
 
--- src/lib.rt:67:1
 same-length-2 : tie.Need-same-length-2
 same-length-2 c = search needs
 
--- src/lib.rt:67:1
 returns : tie.Need-returns
-returns c = ?
+returns c =
+    let a = c .before .before .before .before .before .before .before .before .before .before .before .before .before .before .before .before .before .args in
+    let w = c .before .before .before .before .before .before .before .before .before .before .before .answer in
+    let h = rw (c .before .answered .given .1) at (w .ensures) in
+    let l : length (w .last .1 .1 .0) ≡ length (now (a .work)) = search needs in
+    let m : length (w .last .1 .0) ≡ length (now (a .proof)) = search needs in
+    let z = cleared (w .last .1 .1 .0) _ (length (now (a .work))) l (c .before .before .before .before .before .clear-from .ensures) in
+    keeps-proof (now (a .text)) (length (now (a .proof))) (length (now (a .work))) z (h .0) _ (h .1) (h .2) m (h .3)
 
--- src/lib.rt:67:1
 same-length-3 : tie.Need-same-length-3
 same-length-3 c = search needs
 
--- src/lib.rt:67:1
 same-length-4 : tie.Need-same-length-4
 same-length-4 c = search needs
 
--- src/lib.rt:67:1
 returns-2 : tie.Need-returns-2
-returns-2 c = ?
+returns-2 c =
+    let a = c .before .before .before .before .before .before .before .before .before .before .before .before .before .before .before .before .before .before .before .before .before .args in
+    let w = c .before .before .before .before .before .before .before .before .before .before .before .before .before .before .before .answer in
+    let h = rw (c .before .before .before .before .before .answered2 .given .1) at (w .ensures) in
+    let l : length (w .last .1 .1 .0) ≡ length (now (a .work)) = search needs in
+    let m : length (w .last .1 .0) ≡ length (now (a .proof)) = search needs in
+    let z = cleared (w .last .1 .1 .0) _ (length (now (a .work))) l (c .before .before .before .before .before .before .before .before .before .clear-from .ensures) in
+    keeps-refusal (now (a .text)) (length (now (a .proof))) (length (now (a .work))) z _ _ h (c .before .before .clear .ensures ∙ ap zeros m)
 
 pub prove-spec : {M : Type 1} → statement M
 prove-spec =

@@ -1,0 +1,103 @@
+-- Test by test as the definition has them (`AnswerLaws`); the table and the lines are those of both passes.
+use denote.Ref.{now}
+use lib.ListN.{length}
+use Rattle.engine.proofs.AnswerLaws.{due-16, due-17, due-18, due-proof, none-written}
+use borrow.Author.Needs.{needs}
+use Rattle.engine.proofs.folded.Statement.{statement}
+use Rattle.engine.proofs.folded.Tie as tie
+use Rattle.engine.proofs.folded.Reads as reads
+use Rattle.engine.proofs.folded.Lts as lts
+use Rattle.emit.proofs.pass.emit.Reads as emit-reads
+use Rattle.fold.proofs.pass.first_apart.Reads as first-apart-reads
+use Rattle.fold.proofs.pass.fold.Reads as fold-reads
+use Rattle.frame.proofs.fields.clear.Reads as clear-reads
+
+add-gates : tie.Need-add-gates
+add-gates c = search needs
+
+mul-bound : tie.Need-mul-bound
+mul-bound c = search needs
+
+mul-bound-2 : tie.Need-mul-bound-2
+mul-bound-2 c = search needs
+
+add-bound : tie.Need-add-bound
+add-bound c = search needs
+
+mul-if1 : tie.Need-mul-if1
+mul-if1 c = search needs
+
+returns : tie.Need-returns
+returns c w = due-16 w _ _ (c .if1 .taken)
+
+add-if2 : tie.Need-add-if2
+add-if2 c = search needs
+
+add-if2-2 : tie.Need-add-if2-2
+add-if2-2 c = search needs
+
+mul-if2 : tie.Need-mul-if2
+mul-if2 c = search needs
+
+returns-2 : tie.Need-returns-2
+returns-2 c w = due-17 w _ _ (c .before .before .if1 .left) (c .if2 .taken)
+
+fold-requires : tie.Need-fold-requires
+fold-requires c κs = search needs
+
+first-apart-requires : tie.Need-first-apart-requires
+first-apart-requires c κs = search needs
+
+same-length : tie.Need-same-length
+same-length c = search needs
+
+returns-3 : tie.Need-returns-3
+returns-3 c w =
+    let f = c .before .before .before .before .before .fold in
+    let k = c .before .first-apart in
+    due-18 w _ _ (c .before .before .before .before .before .before .before .before .before .if1 .left) (c .before .before .before .before .before .before .before .if2 .left) (k .result) (k .ensures w (f .ensures w)) (c .if3 .taken)
+
+clear-requires : tie.Need-clear-requires
+clear-requires c κs = search needs
+
+emit-requires : tie.Need-emit-requires
+emit-requires c κs = search needs
+
+same-length-2 : tie.Need-same-length-2
+same-length-2 c = search needs
+
+same-length-3 : tie.Need-same-length-3
+same-length-3 c = search needs
+
+returns-4 : tie.Need-returns-4
+returns-4 c w =
+    let f = c .before .before .before .before .before .before .before .before .before .before .before .before .before .before .before .before .fold in
+    let k = c .before .before .before .before .before .before .before .before .before .before .before .before .first-apart in
+    let e = c .before .before .before .before .emit in
+    let h = f .ensures w in
+    let o = e .ensures w h (none-written (length (now (c .before .before .before .before .before .before .before .before .before .before .before .before .before .before .before .before .before .before .before .before .before .before .before .before .before .before .args .proof))) (c .before .before .before .before .before .before .before .before .before .clear .ensures)) in
+    (due-proof w _ _ (c .before .before .before .before .before .before .before .before .before .before .before .before .before .before .before .before .before .before .before .before .if1 .left) (c .before .before .before .before .before .before .before .before .before .before .before .before .before .before .before .before .before .before .if2 .left) (k .result) (k .ensures w h) (c .before .before .before .before .before .before .before .before .before .before .before .if3 .left), o .0, o .1)
+
+pub folded-spec : {M : Type 1} → statement M
+folded-spec =
+    tie.close
+    (tie.spec
+    add-gates
+    mul-bound
+    mul-bound-2
+    add-bound
+    mul-if1
+    returns
+    add-if2
+    add-if2-2
+    mul-if2
+    returns-2
+    fold-requires
+    first-apart-requires
+    same-length
+    returns-3
+    clear-requires
+    emit-requires
+    same-length-2
+    same-length-3
+    returns-4)
