@@ -1,11 +1,13 @@
--- The writer's call: a frame from a kind and numbers, and what becomes of it.
+-- The writer's call: a frame from a kind and numbers, and what becomes of it; and the engine's, whose promise leaves the lines free.
 use Prim.Native.Nat.{ℕ, _^_}
+use mathlib.Core.Path.{_≡_}
 use mathlib.Core.Bool.{Bool, true, false, _&&_, cond}
 use mathlib.Core.List.{List, [], _∷_}
 use lib.Dec.{eqb, ltb}
 use lib.ListN.{length, take}
 use Rattle.model.specs.Answers.{Answer, guard, bind, zeros}
 use Rattle.model.specs.Answers.Answer.{ok, refused}
+use Rattle.cec_abi.specs.Replies.{numberReply}
 use Rattle.model.specs.Frames.{Frame, widths, isKind, reportKind, oneByte, twoBytes, writeFrame, writtenFrame}
 
 -- the digits of a number of 64 bits
@@ -45,3 +47,9 @@ writeNumbers kind numbers room = writeAnswer (frameFrom kind numbers) room
 -- what the buffer holds after the call
 abbrev pub writtenNumbers : ℕ → List ℕ → ℕ → List ℕ
 writtenNumbers kind numbers room = writtenAnswer (frameFrom kind numbers) room
+
+-- ---- the engine
+
+-- the reply is the numbers of an answer that keeps the promise, with the buffers as they are left
+abbrev pub Replied : List ℕ → (Answer ℕ → List ℕ → List ℕ → Type 0) → List ℕ → List ℕ → Type 0
+Replied reply promise proof work = (answer : Answer ℕ) × (reply ≡ numberReply answer) × promise answer proof work

@@ -3,6 +3,7 @@ mod numbers; // a frame from a kind and numbers
 mod replies; // an answer as numbers
 
 use checker::check;
+use engine::prove;
 use evaluator::evaluate;
 use frame::Decoded;
 use frame::Written;
@@ -16,6 +17,7 @@ use replies::check_reply;
 use replies::frame_reply;
 use replies::list_reply;
 use replies::lists_reply;
+use replies::prove_reply;
 use replies::word_reply;
 use replies::write_reply;
 ghost use mathlib.Core.Path.{_≡_};
@@ -25,10 +27,11 @@ ghost use Rattle.model.specs.Frames.{loneLine};
 ghost use Rattle.model.specs.Lists.{readOne, readLists};
 ghost use Rattle.model.specs.Evaluator as model;
 ghost use Rattle.model.specs.Checker as checking;
+ghost use Rattle.model.specs.Engine as engine;
 ghost use Rattle.laws.specs.Soundness.{AgreeingLists};
 ghost use Rattle.frame.specs.Frames.{decodedOf, writtenOf};
 ghost use Rattle.cec_abi.specs.Replies.{frameReply, numberReply, listReply, listsReply, checkReply};
-ghost use Rattle.cec_abi.specs.Calls.{writeAnswer, writtenAnswer, writeNumbers, writtenNumbers};
+ghost use Rattle.cec_abi.specs.Calls.{Replied, writeAnswer, writtenAnswer, writeNumbers, writtenNumbers};
 
 // A lone line, as numbers: refusal, line, kind, four fields.
 #[no_mangle]
@@ -95,4 +98,12 @@ pub extern "C" fn cec_check(text: &[u8], store: &mut [u16], reply: &mut [u64; 4]
     ensures agrees { λ _. ⌜ (getD (now (reply .exit)) 0 1 ≡ 0 → AgreeingLists (now (text .entry))) ⌝ }
 {
     *reply = check_reply(check(text, store));
+}
+
+// A proof for the two lists of a text; the reply is refusal, line, lines.
+#[no_mangle]
+pub extern "C" fn cec_prove(text: &[u8], proof: &mut [u8], work: &mut [u16], reply: &mut [u64; 3])
+    ensures { λ _. ⌜ Replied (now (reply .exit)) (engine.Engine (now (text .entry)) (length (now (proof .entry))) (length (now (work .entry)))) (now (proof .exit)) (now (work .exit)) ⌝ }
+{
+    *reply = prove_reply(prove(text, proof, work));
 }

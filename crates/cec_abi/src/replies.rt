@@ -1,5 +1,6 @@
 // An answer as numbers: the refusal and its line first, zeros for what it does not have.
 use checker::Checked;
+use engine::Proved;
 use evaluator::Evaluated;
 use frame::Decoded;
 use frame::Frame;
@@ -15,6 +16,7 @@ ghost use Rattle.frame.specs.Frames.{frameOf, decodedOf, writtenOf};
 ghost use Rattle.netlist.specs.Says.{countsReply, countsOf, pairReply, pairOf};
 ghost use Rattle.evaluator.specs.Values.{evaluatedOf};
 ghost use Rattle.checker.specs.Verdicts.{checkedOf, countedOf};
+ghost use Rattle.engine.specs.Replies.{provedOf};
 ghost use Rattle.model.specs.Answers.{Answer};
 ghost use Rattle.model.specs.Answers.Answer.{ok};
 ghost use Rattle.model.specs.Nets.{Netlist};
@@ -113,5 +115,14 @@ pub fn check_reply(answer: Checked) -> [u64; 4]
     match answer {
         Checked::Accepted { steps, clauses } => [0, 0, steps as u64, clauses as u64],
         Checked::Refused(refusal) => [refusal.number as u64, refusal.line as u64, 0, 0],
+    }
+}
+
+pub fn prove_reply(answer: Proved) -> [u64; 3]
+    ensures { λ r. ⌜ r ≡ numberReply (provedOf answer) ⌝ }
+{
+    match answer {
+        Proved::Lines(lines) => [0, 0, lines as u64],
+        Proved::Refused(refusal) => [refusal.number as u64, refusal.line as u64, 0],
     }
 }

@@ -8,18 +8,23 @@ use native.Mathlib.Omega.{arith}
 use lib.ListN.{length, length-append}
 use lib.Dec.{eqb}
 use borrow.Author.Tests.{leb-true}
+use Rattle.model.specs.Limits.{mostOutputs}
 use Rattle.model.specs.Answers.{Answer, guard, bind}
 use Rattle.model.specs.Answers.Answer.{ok, refused}
 use Rattle.model.specs.Lines.{Line, lineFeed, prepend, lines}
 use Rattle.model.specs.Lines.Line.{digits, faulty}
-use Rattle.model.specs.Frames.{decodeAs, decode, frameAt, dueAt}
+use Rattle.model.specs.Frames.{decodeAs, decode, frameAt, dueAt, endAt}
 use Rattle.model.specs.Nets.{Op, Netlist}
 use Rattle.model.specs.Nets.Op.{and, xor, or}
-use Rattle.model.specs.Lists.{ListRead, ListsRead, isHeader, isGate, isOutput, headerAt, gateAt, outputAt, readOutputs, readGates, readList, readBoth}
+use Rattle.model.specs.Lists.{ListRead, ListsRead, isHeader, isGate, isOutput, headerAt, gateAt, outputAt, readOutputs, readGates, readList, readBoth, readLists}
 use Rattle.model.specs.Clauses.{Clause, andClauses, xorClauses, opClauses}
 use Rattle.model.specs.Steps.{Step, State, added, resolved, step, isStep, stepAt, replay}
 use Rattle.model.specs.Steps.Step.{resolve, extend}
 use Rattle.model.specs.Checker.{begin, verdictOn, capacity, check}
+use Rattle.model.specs.Forms.{Form, sameForm, literalForm, netForms, firstApart, differing}
+use Rattle.model.specs.Engine.{provable}
+use Rattle.laws.specs.Bools.{by-cond}
+use Rattle.laws.specs.Reading.{lists-good}
 
 -- ---- an answer, with what holds of its result or of its refusal
 
@@ -41,6 +46,11 @@ module _ {A : Type 0} {Good : A → Type 0} {most : ℕ} where
       → Placed Good most (bind o f)
   placed-bind (result p) h = h _ p
   placed-bind (place number line n l) h = place number line n l
+
+  -- the result is what there is
+  placed-self : {o : Answer A} → Placed Good most o → Placed (λ (a : A). o ≡ ok a) most o
+  placed-self (result p) = result refl
+  placed-self (place number line n l) = place number line n l
 
   -- a line that is at most this is at most more
   raised : {more : ℕ} → most ≤ more → {o : Answer A} → Placed Good most o → Placed Good more o
@@ -187,3 +197,38 @@ check-placed text n =
     placed-bind
     (replay-placed (capacity n) most _ (r .rest) (r .line) p (record { steps = omega arith; clauses = leb-true _ _ t }))
     (λ s k. placed-guard (s .empty) 15 0 _ (omega arith) (omega arith) (λ _. result k)))))
+
+-- ---- the engine's refusals
+
+end-placed : (ls : List Line) (line most : ℕ) → line ≤ most → Placed Any most (endAt ls line)
+unfolding endAt
+end-placed [] line most h = result tt
+end-placed (l ∷ ls) line most h = placed-bind (frame-placed l line most h) (λ f _. place 3 line (omega arith) h)
+
+-- an output, or none
+apart-few : (k : ℕ) (fs gs : List Form) (xs ys : List ℕ) → firstApart k fs gs xs ys ≤ k + length xs
+unfolding firstApart
+apart-few k fs gs [] ys = omega arith
+apart-few k fs gs (x ∷ xs) [] = omega arith
+apart-few k fs gs (x ∷ xs) (y ∷ ys) =
+    by-cond (λ (n : ℕ). n ≤ k + suc (length xs)) (sameForm (literalForm fs x) (literalForm gs y))
+    (λ e. omega (arith, apart-few (suc k) fs gs xs ys)) (λ e. omega arith)
+
+alone-placed : (text : List ℕ) → Placed Any (1 + mostOutputs + length text) (readLists text)
+unfolding readLists
+alone-placed text =
+    let few = lines-few text in
+    raised {most = 1 + length (lines text)} (omega (arith, few))
+    (placed-bind (lists-placed text) (λ r p. placed-bind (end-placed (r .rest) (r .line) _ (omega arith)) (λ _ _. result tt)))
+
+-- The engine's refusals have a number; the line is one of the text or one past it, or an output.
+pub provable-placed : (text : List ℕ) (bytes numbers : ℕ) → Placed Any (1 + mostOutputs + length text) (provable text bytes numbers)
+unfolding provable differing
+provable-placed text bytes numbers =
+    placed-bind (placed-self (alone-placed text))
+    (λ l e.
+    let few = lists-good text l e .left .outs in
+    let k = apart-few 1 (netForms (l .left)) (netForms (l .right)) (l .left .outs) (l .right .outs) in
+    placed-guard _ 16 0 _ (omega arith) (omega arith)
+    (λ _. placed-guard _ 17 0 _ (omega arith) (omega arith)
+    (λ _. placed-guard _ 18 _ _ (omega arith) (omega (arith, few, k)) (λ _. result tt))))

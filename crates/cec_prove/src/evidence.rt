@@ -1,0 +1,18 @@
+// The evidence for a stream: the engine's proof for its two lists, or the refusal.
+use engine::Proved;
+use engine::prove;
+use netlist::Refusal;
+ghost use lib.ListN.{length};
+ghost use Rattle.cec_prove.specs.Streams.{Evidence};
+
+const STREAM_BYTES: usize = 65536;
+
+// 1 for a stream that is too long, else the engine's answer. Where there is a proof, the checker accepts it behind the stream.
+pub fn evidence(stream: &[u8], proof: &mut [u8], work: &mut [u16]) -> Proved
+    ensures { λ r. ⌜ Evidence (now (stream .entry)) (length (now (proof .entry))) (length (now (work .entry))) (now (proof .exit)) r ⌝ }
+{
+    if STREAM_BYTES < stream.len() {
+        return Proved::Refused(Refusal { number: 1, line: 0 });
+    }
+    prove(stream, proof, work)
+}
