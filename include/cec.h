@@ -176,6 +176,28 @@ void cec_evaluate(const uint8_t *text, size_t text_len, uint64_t pattern, uint8_
 void cec_check(const uint8_t *text, size_t text_len, uint16_t *store, size_t store_len,
                uint64_t reply[4]);
 
+/*
+ * Writes a proof that the two lists of a text agree on every pattern, exactly when each pair of
+ * their outputs has the same folded form (document 01, 'Folded form and the engine').
+ *
+ * reply[0]  0 if a proof was written, else the refusal number
+ * reply[1]  0 if a proof was written, else the line of the refusal; for 18 the output, from 1
+ * reply[2]  the number of the proof's lines, 0 after a refusal
+ *
+ * proof holds the lines, 15 bytes each, from its start, and zeros behind them up to proof_len. The
+ * text with these lines behind it is accepted by cec_check with a store of 8 * 65,535 numbers, and
+ * the lines are at most 16 * gates of both lists + 12 * outputs. After a refusal all of proof is
+ * zero. All of work is zero afterwards in every case. What proof and work held before does not
+ * matter. The first of these faults is given:
+ *
+ *   2 to 7      the text is refused as by cec_read_lists, with the same line
+ *   16, line 0  proof_len is below 15 * (16 * gates of both lists + 12 * outputs)
+ *   17, line 0  work_len is below 16 * (1 + inputs + gates of both lists)
+ *   18          the forms of an output differ, though both lists may agree; the first such output
+ */
+void cec_prove(const uint8_t *text, size_t text_len, uint8_t *proof, size_t proof_len,
+               uint16_t *work, size_t work_len, uint64_t reply[3]);
+
 #ifdef __cplusplus
 }
 #endif

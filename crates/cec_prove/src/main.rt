@@ -2,6 +2,7 @@
 // checking program, or one report frame with the refusal.
 mod evidence; // the evidence for a stream
 
+use emit::lines::LINE_BYTES;
 use engine::Proved;
 use evidence::evidence;
 use frame::report::report_line;
@@ -14,8 +15,6 @@ ghost use mathlib.Core.Path.{_≡_};
 ghost use Prim.Native.Nat.{_*_, _≤_};
 ghost use lib.ListN.{length};
 ghost use Rattle.model.specs.Limits.{highestLine, proofLineBytes};
-
-const LINE_BYTES: usize = 15;
 
 // One byte more than a stream may have, so that a longer one is seen without being read to its end.
 fn room() -> [u8; 65537]
