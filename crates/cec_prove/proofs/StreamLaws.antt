@@ -1,7 +1,7 @@
 -- The engine's promise for a stream that is not too long, as evidence; and the refusal of one that is.
 use Prim.Native.Nat.{ℕ, _+_, _-_, _*_, _≤_, _<_}
 use mathlib.Core.Path.{_≡_, refl, sym, ap, _∙_}
-use mathlib.Core.List.{List, _++_}
+use mathlib.Core.List.{List}
 use native.Mathlib.Omega.{arith}
 use lib.ListN.{length, take, length-append, length-replicate}
 use lib.Seq.{take-at}

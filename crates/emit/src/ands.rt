@@ -13,7 +13,6 @@ use clause::Literal;
 use table::links::number_at;
 use table::rows::representative;
 ghost use Prim.Native.Nat.{ℕ, _<_, _≤_};
-ghost use mathlib.Core.Path.{_≡_};
 ghost use mathlib.Core.Bool.{false};
 ghost use mathlib.Core.List.{List, []};
 ghost use lib.ListN.{length, getD};

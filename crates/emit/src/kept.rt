@@ -1,9 +1,8 @@
 // What is kept of a gate: the numbers of two clauses that link it, or those of its clauses over its key.
 use crate::lines::Derived;
 ghost use mathlib.Core.Path.{_≡_};
-ghost use mathlib.Core.Bool.{Bool, true, false};
+ghost use mathlib.Core.Bool.{true, false};
 ghost use mathlib.Core.List.{[], _∷_};
-ghost use Rattle.emit.specs.declared.kept.Kept.{Kept as KeptType};
 
 // Where the proof ends, and the numbers; linked tells two links from clauses over a key.
 pub struct Kept {

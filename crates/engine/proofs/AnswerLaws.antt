@@ -6,12 +6,10 @@ use native.Mathlib.Omega.{arith}
 use lib.ListN.{length, length-replicate}
 use borrow.Author.Tests.{le-leb, lt-leb, eq-eqb, ne-eqb}
 use Rattle.model.specs.Limits.{linesPerGate, linesPerOutput, proofLineBytes, numbersPerNet}
-use Rattle.model.specs.Answers.{Answer, guard, bind, zeros, filled, bufferOf}
+use Rattle.model.specs.Answers.{Answer, guard, bind, zeros, filled}
 use Rattle.model.specs.Answers.Answer.{ok, refused}
 use Rattle.model.specs.Lists.{Lists, readLists}
-use Rattle.model.specs.Forms.{differing}
 use Rattle.model.specs.Engine.{lineBound, working, provable, Outcome, Engine}
-use Rattle.laws.specs.Appending.{changed}
 use Rattle.fold_laws.specs.Engine.{byReps, differing-by-reps}
 use Rattle.emit_laws.specs.Text.{proofText}
 use Rattle.emit_laws.specs.Proof.{proofOf, promised}

@@ -11,7 +11,6 @@ use netlist::Both;
 use netlist::Pair;
 use netlist::Refusal;
 use netlist::read_lists;
-ghost use mathlib.Core.Path.{_≡_};
 ghost use lib.ListN.{length};
 ghost use Rattle.model.specs.Engine as model;
 ghost use Rattle.engine.specs.Replies.{provedOf, listsOf, FoldedSays, AnswerSays};

@@ -1,9 +1,8 @@
 -- The evaluator's answer, from what the reader of lists replied: a refusal of the text, 17, or the word.
 use Prim.Native.Nat.{ℕ, _+_, _≤_, _<_}
-use mathlib.Core.Path.{_≡_, refl, sym, _∙_}
+use mathlib.Core.Path.{_≡_}
 use mathlib.Core.List.{List}
 use native.Mathlib.Omega.{arith}
-use lib.ListN.{length}
 use borrow.Author.Tests.{le-leb, lt-leb}
 use Rattle.model.specs.Answers.{guard}
 use Rattle.model.specs.Answers.Answer.{ok, refused}

@@ -1,16 +1,16 @@
 -- Laws of `decode`, over the bytes of a line: its kind is the number that its first two digits spell, and its fields stand behind it in the
 -- widths of the table.
-use Prim.Native.Nat.{ℕ, suc, _+_, _<_}
-use mathlib.Core.Path.{_≡_, refl, ap₂, _∙_}
+use Prim.Native.Nat.{ℕ, _+_, _<_}
+use mathlib.Core.Path.{_≡_, refl}
 use mathlib.Core.List.{List, [], _∷_}
 use mathlib.Core.Bool.{true, false, and-false}
 use native.Mathlib.Omega.{arith}
-use lib.ListN.{length, take, drop, length-map}
+use lib.ListN.{length, drop, length-map}
 use lib.Seq.{drop-drop}
 use borrow.Author.Tests.{eq-eqb, ne-eqb}
 use Rattle.model.specs.Answers.{guard}
 use Rattle.model.specs.Answers.Answer.{ok, refused}
-use Rattle.model.specs.Frames.{Frame, widths, isKind, number, total, split, decodeAs, decode, oneByte}
+use Rattle.model.specs.Frames.{widths, isKind, number, total, split, decodeAs, decode, oneByte}
 use Rattle.frame.specs.Digits.{values, numberAt}
 
 -- the fields of these widths, from a place on

@@ -1,15 +1,15 @@
 -- Laws of digits: which bytes they are, what they are worth, how many stand at a place, and the numbers that they spell.
 use Prim.Native.Nat.{ℕ, zero, suc, _+_, _-_, _*_, _<_, _≤_}
-use mathlib.Core.Path.{_≡_, refl, sym, ap, _∙_}
-use mathlib.Core.List.{List, [], _∷_, map}
+use mathlib.Core.Path.{_≡_, refl, sym}
+use mathlib.Core.List.{List, [], _∷_}
 use mathlib.Core.Bool.{Bool, true, false, _&&_, _||_, true≢false}
 use native.Mathlib.Numerals.{add-one, one-add}
 use native.Mathlib.Omega.{arith}
 use lib.Dec.{leb, eqb}
-use lib.ListN.{length, take, drop, getD, length-map, drop-of-length-le}
+use lib.ListN.{length, drop, getD, drop-of-length-le}
 use lib.Seq.{drop-cons}
 use borrow.Author.Tests.{le-leb, lt-leb, leb-true, ne-eqb}
-use Rattle.model.specs.Lines.{isDigit, digitValue}
+use Rattle.model.specs.Lines.{isDigit}
 use Rattle.model.specs.Frames.{number, oneByte, twoBytes, threeBytes}
 use Rattle.frame.specs.Digits.{valueOf, values, run, numberAt}
 

@@ -1,6 +1,6 @@
 -- What an answer of the cursor's reader says of the lines: the cases of `first` taken apart, for the readers of lists and proofs.
 use Prim.Native.Nat.{ℕ, suc}
-use mathlib.Core.Path.{_≡_, refl, sym, _∙_}
+use mathlib.Core.Path.{_≡_, refl, sym}
 use mathlib.Core.List.{List, [], _∷_}
 use native.Mathlib.Omega.{arith}
 use Rattle.model.specs.Answers.{Answer}

@@ -3,8 +3,8 @@
 -- their types and a line number above FFFFFF is not written; and no two frames of the enum are the same kind and fields (`frameBack`).
 use Prim.Native.Nat.{ℕ, _≤_, _<_}
 use mathlib.Core.Path.{_≡_, refl, sym, ap, _∙_}
-use mathlib.Core.Bool.{true, _&&_, cond}
-use mathlib.Core.List.{List, []}
+use mathlib.Core.Bool.{_&&_, cond}
+use mathlib.Core.List.{List}
 use native.Mathlib.Omega.{arith}
 use lib.Dec.{eqb, leb}
 use lib.ListN.{length, take}

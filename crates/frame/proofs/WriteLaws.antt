@@ -1,11 +1,11 @@
 -- Laws of writing: stores one behind the other, digits stored from the last to the first, fields in turn, and a buffer's zeros.
-use Prim.Native.Nat.{ℕ, zero, suc, _+_, _-_, _*_, _/_, _%_, _<_, _≤_}
+use Prim.Native.Nat.{ℕ, zero, suc, _+_, _-_, _/_, _%_, _<_, _≤_}
 use mathlib.Core.Path.{_≡_, refl, sym, ap, _∙_}
 use mathlib.Core.List.{List, [], _∷_, _++_, append-assoc, append-nil}
 use mathlib.Core.Bool.{true, false, and-false}
 use native.Mathlib.Omega.{arith}
 use lib.Dec.{leb}
-use lib.ListN.{length, take, drop, getD, set, replicate, length-append, length-set, length-replicate, drop-of-length-le, length-take}
+use lib.ListN.{length, take, drop, getD, set, length-replicate, drop-of-length-le}
 use native.Mathlib.Numerals.{add-one}
 use lib.Seq.{sets, sets-eq, length-sets, set-comm, drop-cons, length-take-le}
 use borrow.Author.Tests.{le-leb, lt-leb}

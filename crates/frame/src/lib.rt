@@ -13,7 +13,7 @@ use fields::line_len;
 use fields::line_number_fits;
 use fields::write_line;
 ghost use mathlib.Core.Path.{_≡_};
-ghost use Prim.Native.Nat.{_+_, _≤_};
+ghost use Prim.Native.Nat.{_+_};
 ghost use lib.ListN.{drop, length};
 ghost use Rattle.model.specs.Lines.{lines};
 ghost use Rattle.model.specs.Frames.{decode, loneLine, writeFrame, writtenFrame};

@@ -1,6 +1,6 @@
 -- A line that was read before is read again: where the text's first line is a frame, the cursor's reader finds just that frame, and so it
 -- finds the gate, or the output, of every list that stands there.
-use Prim.Native.Nat.{ℕ, suc, _+_, _*_, _<_}
+use Prim.Native.Nat.{ℕ, _+_, _*_, _<_}
 use mathlib.Core.Path.{_≡_, refl, sym, ap, _∙_}
 use mathlib.Core.Bool.{Bool, true, false, cond, true≢false}
 use mathlib.Core.List.{List, [], _∷_}

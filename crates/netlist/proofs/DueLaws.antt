@@ -1,7 +1,7 @@
 -- A reader that takes one due frame from the front of the lines: what it comes to where no line is left, where the line is refused, where
 -- another kind stands there, and where the frame does. Headers, gates and outputs are read so, each with its own test behind it.
 use Prim.Native.Nat.{ℕ, suc}
-use mathlib.Core.Path.{_≡_, refl, sym, ap, _∙_}
+use mathlib.Core.Path.{_≡_, refl}
 use mathlib.Core.Bool.{Bool, true, false}
 use mathlib.Core.List.{List, [], _∷_}
 use types.Run.{OneOf, miss}
@@ -9,9 +9,9 @@ use denote.Enum.Declared.{tagOf}
 use Rattle.model.specs.Answers.{Answer, guard, bind}
 use Rattle.model.specs.Answers.Answer.{ok, refused}
 use Rattle.model.specs.Lines.{Line}
-use Rattle.model.specs.Frames.{Frame, field, frameAt, dueAt, xorKind}
-use Rattle.model.specs.Nets.{Gate, Netlist, size, isBelow, readsBelow}
-use Rattle.model.specs.Lists.{ListRead, isHeader, isGate, isOutput, inRange, gateOf, headerAt, gateAt, outputAt, addGate, addOutput, emptyList, readOutputs, readGates, readList}
+use Rattle.model.specs.Frames.{Frame, field, dueAt, xorKind}
+use Rattle.model.specs.Nets.{Netlist, size, isBelow, readsBelow}
+use Rattle.model.specs.Lists.{isHeader, isGate, isOutput, inRange, gateOf, headerAt, gateAt, outputAt, addGate, addOutput, emptyList, readOutputs, readGates, readList}
 use Rattle.frame.proofs.Line as line-type
 use Rattle.frame.specs.declared.Line as code
 use Rattle.frame.specs.declared.Line.the-variants.{Read, End, Refused}

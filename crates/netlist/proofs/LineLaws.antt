@@ -1,11 +1,11 @@
 -- One line of a list, by what the cursor's reader answers: the reader's tests are the tests of the definition, in the same order.
-use Prim.Native.Nat.{ℕ, suc, _/_, _≤_, _<_}
-use mathlib.Core.Path.{_≡_, refl, sym, ap, _∙_}
-use mathlib.Core.Bool.{Bool, true, false, _&&_, and-false}
+use Prim.Native.Nat.{ℕ, suc, _≤_, _<_}
+use mathlib.Core.Path.{_≡_, refl, _∙_}
+use mathlib.Core.Bool.{Bool, true, false, _&&_}
 use mathlib.Core.List.{List, [], _∷_}
 use types.Run.{OneOf, miss}
 use denote.Enum.Declared.{tagOf}
-use borrow.Author.Tests.{lt-ltb, le-ltb, le-leb, lt-leb}
+use borrow.Author.Tests.{lt-ltb, le-leb}
 use lib.Dec.{ltb, leb}
 use Rattle.model.specs.Limits.{mostInputs, mostGates, mostOutputs}
 use Rattle.model.specs.Answers.{Answer, guard, bind}
@@ -13,7 +13,7 @@ use Rattle.model.specs.Answers.Answer.{ok, refused}
 use Rattle.model.specs.Lines as model
 use Rattle.model.specs.Frames.{field, endAt, headerKind, xorKind}
 use Rattle.model.specs.Nets as nets
-use Rattle.model.specs.Nets.{Netlist, size, isBelow, readsBelow}
+use Rattle.model.specs.Nets.{Netlist, size, isBelow}
 use Rattle.model.specs.Lists.{isHeader, isGate, isOutput, inRange, gateOf, addGate, addOutput, emptyList, readOutputs, readGates, readList}
 use Rattle.frame.proofs.Frame as frame-type
 use Rattle.frame.specs.declared.Cursor.{Cursor}
@@ -23,10 +23,9 @@ use Rattle.frame.specs.declared.Frame.{Frame}
 use Rattle.frame.specs.declared.Frame.the-variants.{Header, Gate, Output, Resolve, Extend, Report}
 use Rattle.frame.specs.declared.Line.{Line}
 use Rattle.frame.specs.declared.Line.the-variants.{Read, End, Refused}
-use Rattle.frame.specs.Frames.{gateKind, frameOf, first, firstOf, Inside, Ahead}
+use Rattle.frame.specs.Frames.{gateKind, frameOf, first, firstOf, Inside}
 use Rattle.frame.proofs.FirstLaws.{first-none, first-fault, first-found, Framed}
-use Rattle.netlist.specs.Says.{from, answerOf, refusal, HeaderRead, GateRead, OutputRead}
-use Rattle.netlist.specs.declared.Counts.{Counts}
+use Rattle.netlist.specs.Says.{from, refusal, HeaderRead, GateRead, OutputRead}
 use Rattle.netlist.proofs.DueLaws.{guard-passed, guard-failed, due-other, due-read, header-due, gate-due, output-due}
 
 -- what follows a test follows inside it

@@ -1,19 +1,17 @@
 -- Lists from their parts: gates and outputs behind a header, a list behind another, and nothing behind. Each law puts what two readers say
 -- together to what the definition reads.
-use Prim.Native.Nat.{ℕ, suc, _+_, _≤_}
+use Prim.Native.Nat.{ℕ, _+_}
 use mathlib.Core.Path.{_≡_, refl, sym, ap, _∙_}
-use mathlib.Core.Bool.{Bool, true, false, _&&_, and-false}
+use mathlib.Core.Bool.{Bool, true, false, and-false}
 use mathlib.Core.List.{List}
 use native.Mathlib.Omega.{arith}
-use lib.ListN.{length, drop}
+use lib.ListN.{length}
 use borrow.Author.Tests.{eq-eqb, ne-eqb}
-use Rattle.model.specs.Answers.{guard, bind}
 use Rattle.model.specs.Answers.Answer.{ok, refused}
 use Rattle.model.specs.Frames.{endAt}
 use Rattle.model.specs.Nets.{Netlist, size}
-use Rattle.model.specs.Lists.{ListRead, emptyList, readOutputs, readGates, readList, anyHeader, likeLeft, readBoth, readLists, readOne}
+use Rattle.model.specs.Lists.{emptyList, readOutputs, readGates, readList, anyHeader, likeLeft, readBoth, readLists, readOne}
 use Rattle.frame.specs.declared.Cursor.{Cursor}
-use Rattle.frame.specs.Frames.{Inside}
 use Rattle.netlist.specs.declared.Refusal.{Refusal}
 use Rattle.netlist.specs.declared.Counts.{Counts}
 use Rattle.netlist.specs.declared.Pair.{Pair}
@@ -21,7 +19,7 @@ use Rattle.netlist.specs.declared.Behind.{Behind}
 use Rattle.netlist.specs.declared.Both as both
 use Rattle.netlist.specs.declared.Both.the-variants as both-case
 use Rattle.netlist.specs.declared.Behind.the-variants.{At, Refused}
-use Rattle.netlist.specs.Says.{from, answerOf, GatesRead, GatesSay, OutputsRead, OutputsSay, Listed, HeaderRead, BodyRead, BodySays, PartRead, RightRead, RightSays, BothRead, BothSays, refusal, countsOf, pairOf}
+use Rattle.netlist.specs.Says.{from, answerOf, GatesRead, GatesSay, OutputsRead, OutputsSay, HeaderRead, BodyRead, BodySays, PartRead, RightRead, RightSays, BothRead, BothSays, refusal, countsOf, pairOf}
 use Rattle.netlist.proofs.DueLaws.{guard-passed, guard-failed}
 
 -- ---- a body

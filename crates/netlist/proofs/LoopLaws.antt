@@ -1,12 +1,11 @@
 -- Gates and outputs in a row. Of `count` lines i are read: reading comes to what reading the others comes to, from the cursor behind them and
 -- with a list that has i lines more. Each line read takes this one further; a line that is refused refuses the whole.
-use Prim.Native.Nat.{ℕ, zero, suc, _+_, _-_, _≤_, _<_}
-use mathlib.Core.Path.{_≡_, refl, sym, ap, _∙_}
-use mathlib.Core.List.{List, [], _∷_, _++_}
+use Prim.Native.Nat.{ℕ, suc, _+_, _-_, _<_}
+use mathlib.Core.Path.{_≡_, refl, _∙_}
+use mathlib.Core.List.{List}
 use native.Mathlib.Omega.{arith}
-use types.Run.{OneOf, miss}
-use lib.ListN.{length, length-append}
-use Rattle.model.specs.Answers.Answer.{ok, refused}
+use lib.ListN.{length-append}
+use Rattle.model.specs.Answers.Answer.{refused}
 use Rattle.model.specs.Nets.{Netlist, size}
 use Rattle.model.specs.Lists.{addGate, addOutput, readOutputs, readGates}
 use Rattle.frame.specs.declared.Cursor.{Cursor}

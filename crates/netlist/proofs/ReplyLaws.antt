@@ -1,6 +1,6 @@
 -- What a reply of counts says: the text is a list with these counts, it stands there, and the counts are within the limits.
-use Prim.Native.Nat.{ℕ, _+_, _≤_}
-use mathlib.Core.Path.{_≡_, refl, sym, ap, _∙_}
+use Prim.Native.Nat.{ℕ, _≤_}
+use mathlib.Core.Path.{_≡_, refl, sym, ap}
 use mathlib.Core.List.{List}
 use lib.ListN.{length}
 use Rattle.model.specs.Limits.{mostInputs, mostGates, mostOutputs}

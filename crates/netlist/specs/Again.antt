@@ -1,5 +1,4 @@
 -- A gate of the second pass.
-use Prim.Native.Nat.{ℕ}
 use Rattle.model.specs.Frames.{xorKind}
 use Rattle.model.specs.Nets as nets
 use Rattle.model.specs.Lists.{gateOf}

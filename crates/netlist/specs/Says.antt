@@ -11,7 +11,7 @@ use Rattle.model.specs.Answers.Answer.{ok, refused}
 use Rattle.model.specs.Lines as model
 use Rattle.model.specs.Frames.{endAt}
 use Rattle.model.specs.Nets.{Gate, Netlist, size}
-use Rattle.model.specs.Lists.{ListRead, addGate, addOutput, emptyList, readOutputs, readGates, readList, anyHeader, likeLeft, Lists, ListsRead, readBoth, readLists}
+use Rattle.model.specs.Lists.{ListRead, addGate, addOutput, emptyList, readOutputs, readGates, readList, anyHeader, likeLeft, Lists, readBoth, readLists}
 use Rattle.frame.specs.declared.Cursor.{Cursor}
 use Rattle.frame.specs.declared.Line.{Line}
 use Rattle.frame.specs.declared.Line.the-variants.{Read, End, Refused}

@@ -4,7 +4,6 @@ use Prim.Native.String.{String}
 use mathlib.Core.Path.{_≡_, refl}
 use mathlib.Core.Bool.{true, false}
 use mathlib.Core.List.{List, [], _∷_, _++_}
-use Rattle.model.specs.Nets.{eval}
 use Rattle.model.specs.Evaluator.{evaluate}
 use Rattle.model.specs.Answers.Answer.{ok}
 use Rattle.model.specs.Clauses.{resolvent}

@@ -3,14 +3,12 @@
 //! it. Who uses the calls of one module does not need the library to have those of another.
 
 mod checker;
-#[cfg(feature = "engine")]
 mod engine;
 mod evaluator;
 mod frames;
 mod lists;
 
 pub use checker::check;
-#[cfg(feature = "engine")]
 pub use engine::prove;
 pub use evaluator::evaluate;
 pub use frames::{read_frame, write_frame};

@@ -8,12 +8,13 @@ use cec_archive::{check, prove};
 use cec_reference::read_lists;
 use cec_reference::sample::LISTS;
 use common::garbage::{self, Lent};
+use common::list_texts::{self, over_two_inputs};
 use common::lists::{Shape, LARGEST};
 use common::pairs::MOST_INPUTS;
 use common::random::{seed, Random};
 use common::rewrites::{self, Pair, SHOWN};
 use common::tally::{outcomes, Tally};
-use common::{expected, hex, list_texts, patterns, places, samples};
+use common::{expected, hex, patterns, places, samples};
 
 const PAIRS: u64 = 200_000;
 const LIST_CASES: u64 = 60_000;
@@ -318,12 +319,6 @@ fn sample_p7() {
     }
 }
 
-/// Two lists of two inputs a and b and one output, each given by its gates and its output.
-fn over_two_inputs(left: &[&str], right: &[&str]) -> String {
-    let list = |lines: &[&str]| format!("0102{:04X}01\n{}\n", lines.len() - 1, lines.join("\n"));
-    list(left) + &list(right)
-}
-
 #[test]
 fn sample_p11() {
     let and = ["0200020004", "040006"];
@@ -472,18 +467,10 @@ fn large_pairs_are_proved_alike() {
     reached.shown.finish("large ones proved after", 1, &shown);
 }
 
-/// The longest proofs: gates that are all alike, but over operands that are linked.
 #[test]
 fn long_proofs_are_accepted() {
     for kind in ["02", "03"] {
-        // Nets 3 and 4 are a and b again, and each gate but those reads them.
-        let linked = "0300020000\n0300040000\n";
-        let gates = format!("{kind}00060008\n").repeat(1_022);
-        let outputs: String = (961..1_025)
-            .map(|net| format!("04{:04X}\n", 2 * net))
-            .collect();
-        let list = format!("0102040040\n{linked}{gates}{outputs}");
-        replies_in_enough(&list.repeat(2), [0, 0]);
+        replies_in_enough(&list_texts::linked(kind), [0, 0]);
     }
 }
 

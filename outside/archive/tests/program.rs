@@ -3,20 +3,16 @@
 
 mod common;
 
-use std::fs::{File, OpenOptions};
-use std::io::Write;
-use std::os::fd::OwnedFd;
-use std::os::unix::net::UnixStream;
 use std::path::{Path, PathBuf};
-use std::process::Stdio;
 
 use cec_reference::report;
 use cec_reference::sample::{LISTS, PROOF};
-use common::programs::{self, Ended};
+use common::programs::{self, printed, Ended};
 use common::proof_texts::{self, bench, P5};
 use common::random::{seed, Random};
 use common::tally::{outcomes, Tally};
-use common::{hex, list_texts, texts};
+use common::texts::{self, digits};
+use common::{hex, list_texts};
 
 const PROGRAM: &str = "cec_check";
 
@@ -28,13 +24,6 @@ const LONG_CASES: u64 = 300;
 /// The program's limits: the bytes of its stream, and the clauses of its store.
 const STREAM_BYTES: usize = 65_536;
 const CLAUSES: usize = 4_096;
-
-/// What the program printed. It ended normally and said nothing else.
-fn printed(ended: Ended) -> String {
-    let text = |bytes| String::from_utf8(bytes).expect("the output is text");
-    assert_eq!((ended.status, text(ended.errors)), (Some(0), String::new()));
-    text(ended.printed)
-}
 
 /// Runs the program and compares with the reference. Gives the report's refusal number.
 fn compare(case: u64, about: &str, text: &[u8]) -> u64 {
@@ -99,13 +88,6 @@ fn sample_p6_with_the_programs_store() {
     prints(&gates(1, 1_022), "210800000000000000");
     prints(&(gates(2, 1_021) + "1200000000\n"), "210E00040400000000");
     prints(&(gates(1, 1_022) + "G"), "210800000000000000");
-}
-
-/// One digit after the other up to the length, and then this.
-fn digits(length: usize, end: &str) -> Vec<u8> {
-    let digits = b"0123456789ABCDEF".iter().cycle();
-    let digits = digits.take(length - end.len()).copied();
-    digits.chain(end.bytes()).collect()
 }
 
 /// A stream is read to its last byte, and one of more than 65,536 bytes is 1 whatever it says.
@@ -206,49 +188,29 @@ fn pieces_and_files_are_read_whole() {
     for (case, (stream, length)) in (0..).zip(streams) {
         let pieces = programs::run_in_pieces(PROGRAM, &stream, length);
         let number = compare_run(case, "in pieces", &stream, pieces);
-        let file = File::open(written(case, &stream)).expect("the file is there");
-        let from_file = programs::run_on(PROGRAM, file.into());
+        let from_file = programs::run_on_file(PROGRAM, &file(case), &stream);
         assert_eq!(compare_run(case, "a file", &stream, from_file), number);
         tally.count(number.to_string());
     }
     tally.finish("pieces and files", 4, &outcomes(&[0, 1, 3]));
 }
 
-/// A file with these bytes, in the tests' own folder.
-fn written(case: u64, bytes: &[u8]) -> PathBuf {
-    let file = Path::new(env!("CARGO_TARGET_TMPDIR")).join(format!("stream-{case}"));
-    std::fs::write(&file, bytes).expect("the file is written");
-    file
-}
-
-/// Nothing is printed on standard input that cannot be read to its end, but a message is.
-#[track_caller]
-fn is_unread(input: Stdio) {
-    let ended = programs::run_on(PROGRAM, input);
-    let printed = String::from_utf8_lossy(&ended.printed);
-    assert_eq!(printed, "");
-    assert!(ended.errors.starts_with(b"cec_check: "), "{ended:?}");
-    assert!(ended.errors.ends_with(b"\n"), "{ended:?}");
-    assert_eq!(ended.status, Some(0));
+/// A file in the tests' own folder.
+fn file(case: u64) -> PathBuf {
+    Path::new(env!("CARGO_TARGET_TMPDIR")).join(format!("{PROGRAM}-stream-{case}"))
 }
 
 #[test]
 fn unreadable_standard_input_has_no_report() {
-    let folder = File::open(env!("CARGO_MANIFEST_DIR"));
-    is_unread(folder.expect("the folder is there").into());
-    let file = written(99, bench(&PROOF).as_bytes());
-    let only_written = OpenOptions::new().append(true).open(file);
-    is_unread(only_written.expect("the file is there").into());
+    programs::is_unread(PROGRAM, programs::folder());
+    let sample = bench(&PROOF);
+    let only_written = programs::only_written(&file(99), sample.as_bytes());
+    programs::is_unread(PROGRAM, only_written);
 }
 
 /// The whole bench sample comes, and then a reset and no end.
 #[test]
 fn a_stream_that_breaks_off_has_no_report() {
-    let (mut writer, mut reader) = UnixStream::pair().expect("there are sockets");
     let sample = bench(&PROOF);
-    writer.write_all(sample.as_bytes()).expect("it is written");
-    // The writer's end is closed with a byte unread, which the reader is told as a reset.
-    reader.write_all(b"0").expect("it is written");
-    drop(writer);
-    is_unread(OwnedFd::from(reader).into());
+    programs::is_unread(PROGRAM, programs::broken_off(sample.as_bytes()));
 }

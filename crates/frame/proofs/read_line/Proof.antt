@@ -1,7 +1,7 @@
 -- The four ways of reading at a place (`LineLaws`): nothing left, digits to the end, a byte that is neither digit nor LF, and a whole line,
 -- which is decoded. Behind a whole line the cursor is past its LF, so it is in the text and its line has not outrun it.
 use native.Mathlib.Omega.{arith}
-use mathlib.Core.Path.{_≡_, refl, sym, _∙_}
+use mathlib.Core.Path.{refl, sym}
 use denote.Ref.{now}
 use Rattle.frame.proofs.LineLaws.{read-end, read-open, read-other, read-decoded}
 use borrow.Author.Needs.{needs}

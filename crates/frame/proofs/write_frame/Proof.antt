@@ -1,6 +1,6 @@
 -- The buffer is cleared first, so that both refusals leave zeros and a written line has zeros behind it; the ways of writing are in
 -- `WriteLaws`.
-use mathlib.Core.Path.{_≡_, sym, ap, _∙_}
+use mathlib.Core.Path.{sym, ap, _∙_}
 use native.Mathlib.Nat.{zero-add}
 use native.Mathlib.Omega.{arith}
 use borrow.Author.Tests.{not-true, not-false}

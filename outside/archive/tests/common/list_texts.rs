@@ -21,6 +21,24 @@ pub fn with_bytes_behind(case: u64, text: &[u8]) -> Vec<u8> {
     [text, behind].concat()
 }
 
+/// Two lists of two inputs a and b and one output, each given by its gates and its output.
+pub fn over_two_inputs(left: &[&str], right: &[&str]) -> String {
+    let list = |lines: &[&str]| format!("0102{:04X}01\n{}\n", lines.len() - 1, lines.join("\n"));
+    list(left) + &list(right)
+}
+
+/// Two lists with the longest proofs: gates of this kind that are all alike, but over operands that
+/// are linked.
+pub fn linked(kind: &str) -> String {
+    // Nets 3 and 4 are a and b again, and each gate but those reads them.
+    let linked = "0300020000\n0300040000\n";
+    let gates = format!("{kind}00060008\n").repeat(1_022);
+    let outputs: String = (961..1_025)
+        .map(|net| format!("04{:04X}\n", 2 * net))
+        .collect();
+    format!("0102040040\n{linked}{gates}{outputs}").repeat(2)
+}
+
 /// A text of so many lists, each with the inputs and outputs of the first; in one case of sixteen
 /// another number of lists. Two thirds of the texts are damaged, in up to three ways.
 pub fn any(random: &mut Random, lists: usize) -> (String, Vec<u8>) {

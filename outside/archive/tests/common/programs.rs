@@ -1,8 +1,12 @@
-//! Runs of the built programs. They lie in the folder that CEC_BIN_DIR names, or else where the
-//! project's build leaves them. A relative folder counts from this crate's manifest.
+//! Runs of the built programs, and standard input of several sorts for them. They lie in the folder
+//! that CEC_BIN_DIR names, or else where the project's build leaves them. A relative folder counts
+//! from this crate's manifest.
 
 use std::env;
+use std::fs::{self, File, OpenOptions};
 use std::io::{ErrorKind, Read, Write};
+use std::os::fd::OwnedFd;
+use std::os::unix::net::UnixStream;
 use std::path::{Path, PathBuf};
 use std::process::{Child, Command, Stdio};
 use std::sync::mpsc;
@@ -101,4 +105,54 @@ fn read(output: &mut impl Read) -> Vec<u8> {
     let mut bytes = Vec::new();
     output.read_to_end(&mut bytes).expect("the pipe is read");
     bytes
+}
+
+/// What the program printed. It ended normally and said nothing else.
+#[track_caller]
+pub fn printed(ended: Ended) -> String {
+    let text = |bytes| String::from_utf8(bytes).expect("the output is text");
+    assert_eq!((ended.status, text(ended.errors)), (Some(0), String::new()));
+    text(ended.printed)
+}
+
+/// Nothing is printed on standard input that cannot be read to its end, but a message is.
+#[track_caller]
+pub fn is_unread(program: &str, input: Stdio) {
+    let ended = run_on(program, input);
+    let printed = String::from_utf8_lossy(&ended.printed);
+    assert_eq!(printed, "");
+    let name = format!("{program}: ");
+    assert!(ended.errors.starts_with(name.as_bytes()), "{ended:?}");
+    assert!(ended.errors.ends_with(b"\n"), "{ended:?}");
+    assert_eq!(ended.status, Some(0));
+}
+
+/// Runs a program on this file with these bytes.
+pub fn run_on_file(program: &str, file: &Path, bytes: &[u8]) -> Ended {
+    fs::write(file, bytes).expect("the file is written");
+    let file = File::open(file).expect("the file is there");
+    run_on(program, file.into())
+}
+
+/// Standard input that is a folder.
+pub fn folder() -> Stdio {
+    let folder = File::open(env!("CARGO_MANIFEST_DIR"));
+    folder.expect("the folder is there").into()
+}
+
+/// Standard input that is this file with these bytes, but only open to write.
+pub fn only_written(file: &Path, bytes: &[u8]) -> Stdio {
+    fs::write(file, bytes).expect("the file is written");
+    let only_written = OpenOptions::new().append(true).open(file);
+    only_written.expect("the file is there").into()
+}
+
+/// Standard input on which these bytes come, and then a reset and no end.
+pub fn broken_off(bytes: &[u8]) -> Stdio {
+    let (mut writer, mut reader) = UnixStream::pair().expect("there are sockets");
+    writer.write_all(bytes).expect("it is written");
+    // The writer's end is closed with a byte unread, which the reader is told as a reset.
+    reader.write_all(b"0").expect("it is written");
+    drop(writer);
+    OwnedFd::from(reader).into()
 }

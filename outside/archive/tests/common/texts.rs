@@ -72,6 +72,13 @@ pub fn long(random: &mut Random) -> Vec<u8> {
     text
 }
 
+/// One digit after the other up to the length, and then this.
+pub fn digits(length: usize, end: &str) -> Vec<u8> {
+    let digits = DIGITS.iter().cycle();
+    let digits = digits.take(length - end.len()).copied();
+    digits.chain(end.bytes()).collect()
+}
+
 /// A line of this kind with so many digits too many, each digit and the LF in its place.
 pub fn overlong(random: &mut Random, kind: u8, excess: usize) -> Vec<u8> {
     let mut text = line(random, kind);

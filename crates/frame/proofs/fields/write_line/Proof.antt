@@ -1,11 +1,11 @@
 -- The kind is stored, then field by field. The invariant: storing the fields that are left, and the LF, gives what storing all of them gives.
 use Prim.Native.Nat.{_+_, _-_, _≤_}
-use mathlib.Core.Path.{_≡_, refl, sym, ap, _∙_}
+use mathlib.Core.Path.{_≡_, refl, ap, _∙_}
 use denote.Ref.{now}
 use native.Mathlib.Omega.{arith}
 use borrow.Author.Needs.{needs}
 use lib.ListN.{length, take, length-set}
-use lib.Seq.{sets, length-sets, getD-take}
+use lib.Seq.{length-sets, getD-take}
 use Rattle.model.specs.Frames.{total, hex, oneByte}
 use Rattle.frame.proofs.WriteLaws.{Storing, field-room, field-stored, fields-stored, width-count, value-count, line-long, line-stored}
 use Rattle.frame.proofs.fields.write_line.Statement.{statement}
