@@ -7,13 +7,14 @@ use lib.ListN.{length, take, length-append, length-replicate}
 use lib.Seq.{take-at}
 use borrow.Author.Tests.{le-leb, lt-leb}
 use Rattle.model.specs.Limits.{mostOutputs, streamBytes, highestLine, proofLineBytes}
-use Rattle.model.specs.Answers.{Answer, guard, zeros}
+use Rattle.model.specs.Answers.{Answer, guard, zeros, filled}
 use Rattle.model.specs.Answers.Answer.{ok, refused}
 use Rattle.model.specs.Lists.{Lists}
 use Rattle.model.specs.Engine.{provable, Outcome, Engine}
 use Rattle.laws.specs.Answers.{ok-injective, refused-not-ok}
 use Rattle.laws.specs.Places.{Placed, provable-placed}
 use Rattle.laws.specs.Places.Placed.{place}
+use Rattle.emit_laws.specs.Statement.{Accepted}
 use Rattle.engine.specs.declared.Proved.{Proved}
 use Rattle.engine.specs.declared.Proved.the-variants.{Lines, Refused}
 use Rattle.engine.specs.Replies.{provedOf}
@@ -33,7 +34,7 @@ module _ (stream : List ℕ) (bytes numbers : ℕ) (proof work : List ℕ) (shor
   few (refused m k) (place n l some h) number line e = let z : k ≡ line = cc in omega arith
 
   go : (a : Answer Lists) → provable stream bytes numbers ≡ a → (r : Proved) → Outcome stream bytes numbers a (provedOf r) proof work
-      → Evidence stream bytes numbers proof r
+      → Evidence stream bytes numbers proof work r
   go (ok l) e (Lines n) h =
       let c : n ≡ h .0 = ok-injective (h .2) in
       let p : List ℕ = h .1 in
@@ -41,7 +42,8 @@ module _ (stream : List ℕ) (bytes numbers : ℕ) (proof work : List ℕ) (shor
       let b = h .4 in
       let fits : length p + (bytes - length p) ≡ bytes = simp (length-append, length-replicate) at (sym (ap length b) ∙ long) in
       let whole : take (proofLineBytes * n) proof ≡ p = rw b (take-at p (zeros (bytes - length p)) (proofLineBytes * n) (omega (arith, v .bytes))) in
-      (l, due-is ∙ e, omega (arith, v .bytes), record { final = v .final; checked = rw whole (v .accepted); counted = v .counted ∙ sym c })
+      let some : Accepted stream proof n = record { final = v .final; checked = rw whole (v .accepted); counted = v .counted ∙ sym c } in
+      (l, due-is ∙ e, omega (arith, v .bytes), some, rw c (v .bound), b ∙ ap (filled bytes) (sym whole), h .5)
   go (ok l) e (Refused r) h = absurd (refused-not-ok (h .2))
   go (refused number line) e (Lines n) h = absurd (refused-not-ok (sym (h .0)))
   go (refused number line) e (Refused r) h =
@@ -49,7 +51,7 @@ module _ (stream : List ℕ) (bytes numbers : ℕ) (proof work : List ℕ) (shor
       let n : number ≡ r .number = cc in
       let k : line ≡ r .line = cc in
       let s : provable stream bytes numbers ≡ refused (r .number) (r .line) = e ∙ rw (n, k) in
-      (due-is ∙ s, few (provable stream bytes numbers) (provable-placed stream bytes numbers) (r .number) (r .line) s)
+      (due-is ∙ s, few (provable stream bytes numbers) (provable-placed stream bytes numbers) (r .number) (r .line) s, h .1, h .2)
 
-  pub made : (r : Proved) → Engine stream bytes numbers (provedOf r) proof work → Evidence stream bytes numbers proof r
+  pub made : (r : Proved) → Engine stream bytes numbers (provedOf r) proof work → Evidence stream bytes numbers proof work r
   made = go (provable stream bytes numbers) refl
