@@ -6,8 +6,8 @@ use crate::steps::resolve_step;
 use frame::Cursor;
 use frame::Frame;
 use frame::Line;
-use frame::read_line;
 use netlist::Refusal;
+use words::read::resolve_line;
 ghost use mathlib.Core.Path.{_≡_};
 ghost use Rattle.model.specs.Steps as model;
 ghost use Rattle.model.specs.Steps.{State};
@@ -65,7 +65,7 @@ pub fn replay(
     let mut p = start;
     loop {
         let line = c.line;
-        let got = read_line(text, c);
+        let got = resolve_line(text, c);
         let Line::Read(frame, next) = got else {
             return ended(got, p);
         };

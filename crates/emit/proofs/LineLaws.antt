@@ -20,7 +20,7 @@ use Rattle.emit.specs.declared.lines.Derived.{Derived}
 use Rattle.emit.specs.Emission.{Written, Room, Emits}
 
 -- a resolution's line
-pub line-bytes : (r : Resolution) → length (lineOf (frameOf r)) ≡ proofLineBytes
+line-bytes : (r : Resolution) → length (lineOf (frameOf r)) ≡ proofLineBytes
 unfolding widths total
 line-bytes r = line-length (frameOf r) refl
 

@@ -1,9 +1,8 @@
 // One line of the proof: a resolution, written behind those before it.
-use frame::Frame;
-use frame::fields::write_line;
+use words::write::write_resolve;
 ghost use mathlib.Core.Path.{_≡_};
 ghost use lib.ListN.{length};
-ghost use Rattle.frame.specs.Frames as frames;
+ghost use Rattle.words.specs.Words.{resolve};
 ghost use Rattle.emit_laws.specs.Fields as model;
 ghost use Rattle.emit_laws.specs.Replay.{pivot};
 ghost use Rattle.emit_laws.specs.Trees.Tree.{old, cut as cutTree};
@@ -29,19 +28,26 @@ pub fn given(at: Derived, c: u16) -> Derived
     }
 }
 
+// A resolve's fields: the first clause holds the variable, the second its complement.
+pub struct Resolve {
+    pub first: u16,
+    pub second: u16,
+    pub variable: u16,
+}
+
 // The resolution of clause a, which holds l, and clause b, which holds its complement.
-fn resolution(a: u16, b: u16, l: u16) -> Frame
-    ensures { λ r. ⌜ frames.frameOf r ≡ model.frameOf (pivot a b l) ⌝ }
+fn resolution(a: u16, b: u16, l: u16) -> Resolve
+    ensures { λ r. ⌜ resolve (r .first) (r .second) (r .variable) ≡ model.frameOf (pivot a b l) ⌝ }
 {
     let variable = l / 2;
     if l % 2 == 1 {
-        return Frame::Resolve {
+        return Resolve {
             first: b,
             second: a,
             variable,
         };
     }
-    Frame::Resolve {
+    Resolve {
         first: a,
         second: b,
         variable,
@@ -54,7 +60,14 @@ pub fn cut(proof: &mut [u8], at: Derived, a: u16, b: u16, l: u16) -> Derived
     ensures few { λ r. ⌜ Few at 1 r ⌝ }
     ensures emits { λ r. ⌜ Emits (now (proof .entry)) at (now (proof .exit)) r (cutTree (old a) (old b) l) ⌝ }
 {
-    write_line(resolution(a, b, l), proof, LINE_BYTES * at.lines);
+    let step = resolution(a, b, l);
+    write_resolve(
+        proof,
+        LINE_BYTES * at.lines,
+        step.first,
+        step.second,
+        step.variable,
+    );
     let clause = at.clauses + 1;
     Derived {
         lines: at.lines + 1,

@@ -4,7 +4,8 @@ use frame::Cursor;
 use frame::Frame;
 use frame::Line;
 use frame::Op;
-use frame::read_line;
+use words::read::gate_line;
+use words::read::output_line;
 ghost use mathlib.Core.Path.{_≡_};
 ghost use Prim.Native.Nat.{_≤_, _<_};
 ghost use lib.ListN.{drop, length, getD};
@@ -39,7 +40,7 @@ pub fn gate_at(text: &[u8], at: usize, k: usize) -> Gate
             y: 0,
         };
     }
-    let got = read_line(text, Cursor { at: place, line: 1 });
+    let got = gate_line(text, Cursor { at: place, line: 1 });
     let Line::Read(frame, _) = got else {
         return Gate {
             op: Op::And,
@@ -66,7 +67,7 @@ pub fn output_at(text: &[u8], at: usize, gates: usize, k: usize) -> u16
     if text.len() < place {
         return 0;
     }
-    let got = read_line(text, Cursor { at: place, line: 1 });
+    let got = output_line(text, Cursor { at: place, line: 1 });
     let Line::Read(frame, _) = got else {
         return 0;
     };

@@ -8,6 +8,8 @@ use frame::Cursor;
 use frame::Frame;
 use frame::Line;
 use frame::read_line;
+use words::read::gate_line;
+use words::read::output_line;
 ghost use mathlib.Core.Path.{_≡_};
 ghost use Prim.Native.Nat.{_+_, _≤_};
 ghost use Rattle.model.specs.Limits.{mostInputs, mostGates};
@@ -76,7 +78,7 @@ pub fn read_gate(text: &[u8], cursor: Cursor, net: usize) -> Behind
     ensures { λ r. ⌜ GateSays (now (text .entry)) cursor net r ⌝ }
 {
     let line = cursor.line;
-    let got = read_line(text, cursor);
+    let got = gate_line(text, cursor);
     let Line::Read(frame, next) = got else {
         return Behind::Refused(missing(got, line));
     };
@@ -116,7 +118,7 @@ pub fn read_output(text: &[u8], cursor: Cursor, nets: usize) -> Behind
     ensures { λ r. ⌜ OutputSays (now (text .entry)) cursor nets r ⌝ }
 {
     let line = cursor.line;
-    let got = read_line(text, cursor);
+    let got = output_line(text, cursor);
     let Line::Read(frame, next) = got else {
         return Behind::Refused(missing(got, line));
     };

@@ -16,7 +16,7 @@ use Rattle.checker.proofs.replay.replay.Reads as reads
 use Rattle.checker.proofs.replay.replay.Lts as lts
 use Rattle.checker.proofs.replay.ended.Reads as ended-reads
 use Rattle.checker.proofs.replay.frame_step.Reads as frame-step-reads
-use Rattle.frame.proofs.read_line.Reads as read-line-reads
+use Rattle.words.proofs.read.resolve_line.Reads as resolve-line-reads
 
 abbrev Inv-loop : tie.InvT-loop
 Inv-loop text store₀ room c₀ p₀ store c p =
@@ -32,8 +32,8 @@ loop-holds : tie.Need-loop-holds Inv-loop μ-loop
 loop-holds c =
     (c .before .before .pre .0, c .before .before .pre .1, refl, λ s t. record { state = s; tracks = t; same = refl })
 
-read-line-requires : tie.Need-read-line-requires Inv-loop μ-loop
-read-line-requires c κs = c .loop .inv .0
+resolve-line-requires : tie.Need-resolve-line-requires Inv-loop μ-loop
+resolve-line-requires c κs = c .loop .inv .0
 
 enum-known-got : tie.Need-enum-known-got Inv-loop μ-loop
 enum-known-got c = search needs
@@ -48,7 +48,7 @@ returns : tie.Need-returns Inv-loop μ-loop
 returns c s t =
     let a = c .before .before .before .before .before .before .args in
     let l = c .before .before .before .loop in
-    let got = c .before .before .read-line in
+    let got = c .before .before .resolve-line in
     let r = l .inv .3 s t in
     rw (c .ended .ensures, r .same)
     (replay-ended (a .room) (r .state) (now (a .text)) (l .c) (got .result) (got .ensures .0) (c .before .match .keys2) (l .store) (l .p) (r .tracks) (l .inv .1))
@@ -72,7 +72,7 @@ returns-2 : tie.Need-returns-2 Inv-loop μ-loop
 returns-2 c s t =
     let a = c .before .before .before .before .before .before .before .before .before .before .before .before .before .args in
     let l = c .before .before .before .before .before .before .before .before .before .before .loop in
-    let one = c .before .before .before .before .before .before .before .before .before .read-line in
+    let one = c .before .before .before .before .before .before .before .before .before .resolve-line in
     let got = c .before .before .before .before .before .before .before .got .given in
     let told = c .enum-told .given in
     let r = l .inv .3 s t in
@@ -82,14 +82,14 @@ returns-2 c s t =
 loop-less : tie.Need-loop-less Inv-loop μ-loop
 loop-less c =
     let got = c .before .before .before .before .before .before .before .before .got .given in
-    let ahead = rw (got .1) at (c .before .before .before .before .before .before .before .before .before .before .read-line .ensures .1) in
+    let ahead = rw (got .1) at (c .before .before .before .before .before .before .before .before .before .before .resolve-line .ensures .1) in
     omega (arith, ahead .1, ahead .0 .at)
 
 loop-again : tie.Need-loop-again Inv-loop μ-loop
 loop-again c =
     let a = c .before .before .before .before .before .before .before .before .before .before .before .before .before .before .args in
     let l = c .before .before .before .before .before .before .before .before .before .before .before .loop in
-    let one = c .before .before .before .before .before .before .before .before .before .before .read-line in
+    let one = c .before .before .before .before .before .before .before .before .before .before .resolve-line in
     let got = c .before .before .before .before .before .before .before .before .got .given in
     let known = c .before .stepped .given in
     let w = l .inv .1 in
@@ -116,7 +116,7 @@ replay-spec =
     Inv-loop
     μ-loop
     loop-holds
-    read-line-requires
+    resolve-line-requires
     enum-known-got
     ended-requires
     same-length

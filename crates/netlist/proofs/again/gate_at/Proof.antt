@@ -8,7 +8,7 @@ use Rattle.netlist.proofs.again.gate_at.Statement.{statement}
 use Rattle.netlist.proofs.again.gate_at.Tie as tie
 use Rattle.netlist.proofs.again.gate_at.Reads as reads
 use Rattle.netlist.proofs.again.gate_at.Lts as lts
-use Rattle.frame.proofs.read_line.Reads as read-line-reads
+use Rattle.words.proofs.read.gate_line.Reads as gate-line-reads
 
 add-place : tie.Need-add-place
 add-place c = search needs
@@ -24,8 +24,8 @@ returns c =
     let a = c .before .before .args in
     λ n s h. absurd (beyond (now (a .text)) _ (c .if1 .taken) (gate-place (now (a .text)) (a .at) s (a .k) h))
 
-read-line-requires : tie.Need-read-line-requires
-read-line-requires c κs = search needs
+gate-line-requires : tie.Need-gate-line-requires
+gate-line-requires c κs = search needs
 
 enum-known-got : tie.Need-enum-known-got
 enum-known-got c = search needs
@@ -34,7 +34,7 @@ returns-2 : tie.Need-returns-2
 returns-2 c =
     let a = c .before .before .before .before .args in
     let place = a .at + headerBytes + gateBytes * a .k in
-    let one = c .before .read-line in
+    let one = c .before .gate-line in
     λ n s h. absurd (not-missing (now (a .text)) place (one .result) (one .ensures .0) _ (gate-place (now (a .text)) (a .at) s (a .k) h) (c .match .keys2))
 
 enum-known-frame : tie.Need-enum-known-frame
@@ -44,7 +44,7 @@ returns-3 : tie.Need-returns-3
 returns-3 c =
     let a = c .before .before .before .before .before .before .before .args in
     let place = a .at + headerBytes + gateBytes * a .k in
-    let one = c .before .before .before .before .read-line in
+    let one = c .before .before .before .before .gate-line in
     let got = c .before .before .got .given in
     λ n s h. absurd (gate-only (now (a .text)) (a .at) s (a .k) (got .0 .0) (c .match2 .keys2)
     (found-again (now (a .text)) place (one .result) (one .ensures .0) _ (gate-place (now (a .text)) (a .at) s (a .k) h) _ _ (got .1)))
@@ -53,7 +53,7 @@ returns-4 : tie.Need-returns-4
 returns-4 c =
     let a = c .before .before .before .before .before .before .before .before .before .args in
     let place = a .at + headerBytes + gateBytes * a .k in
-    let one = c .before .before .before .before .before .before .read-line in
+    let one = c .before .before .before .before .before .before .gate-line in
     let got = c .before .before .before .before .got .given in
     λ n s h. gate-is (now (a .text)) (a .at) s (a .k) h
     (rw (c .before .frame .given .1) at (found-again (now (a .text)) place (one .result) (one .ensures .0) _ (gate-place (now (a .text)) (a .at) s (a .k) h) _ _ (got .1)))
@@ -66,7 +66,7 @@ gate-at-spec =
     mul-place
     add-place-2
     returns
-    read-line-requires
+    gate-line-requires
     enum-known-got
     returns-2
     enum-known-frame

@@ -10,7 +10,7 @@ use Rattle.netlist.proofs.again.output_at.Statement.{statement}
 use Rattle.netlist.proofs.again.output_at.Tie as tie
 use Rattle.netlist.proofs.again.output_at.Reads as reads
 use Rattle.netlist.proofs.again.output_at.Lts as lts
-use Rattle.frame.proofs.read_line.Reads as read-line-reads
+use Rattle.words.proofs.read.output_line.Reads as output-line-reads
 
 add-place : tie.Need-add-place
 add-place c = search needs
@@ -32,8 +32,8 @@ returns c =
     let a = c .before .before .args in
     λ n s m h. absurd (beyond (now (a .text)) _ (c .if1 .taken) (output-place (now (a .text)) (a .at) s (a .k) (a .gates) m h))
 
-read-line-requires : tie.Need-read-line-requires
-read-line-requires c κs = search needs
+output-line-requires : tie.Need-output-line-requires
+output-line-requires c κs = search needs
 
 enum-known-got : tie.Need-enum-known-got
 enum-known-got c = search needs
@@ -42,7 +42,7 @@ returns-2 : tie.Need-returns-2
 returns-2 c =
     let a = c .before .before .before .before .args in
     let place = a .at + headerBytes + gateBytes * a .gates + outputBytes * a .k in
-    let one = c .before .read-line in
+    let one = c .before .output-line in
     λ n s m h. absurd (not-missing (now (a .text)) place (one .result) (one .ensures .0) _ (output-place (now (a .text)) (a .at) s (a .k) (a .gates) m h) (c .match .keys2))
 
 enum-known-frame : tie.Need-enum-known-frame
@@ -52,7 +52,7 @@ returns-3 : tie.Need-returns-3
 returns-3 c =
     let a = c .before .before .before .before .before .before .before .args in
     let place = a .at + headerBytes + gateBytes * a .gates + outputBytes * a .k in
-    let one = c .before .before .before .before .read-line in
+    let one = c .before .before .before .before .output-line in
     let got = c .before .before .got .given in
     λ n s m h. absurd (output-only (now (a .text)) (a .at) s (a .k) (got .0 .0) (c .match2 .keys2)
     (found-again (now (a .text)) place (one .result) (one .ensures .0) _ (output-place (now (a .text)) (a .at) s (a .k) (a .gates) m h) _ _ (got .1)))
@@ -61,7 +61,7 @@ returns-4 : tie.Need-returns-4
 returns-4 c =
     let a = c .before .before .before .before .before .before .before .before .before .args in
     let place = a .at + headerBytes + gateBytes * a .gates + outputBytes * a .k in
-    let one = c .before .before .before .before .before .before .read-line in
+    let one = c .before .before .before .before .before .before .output-line in
     let got = c .before .before .before .before .got .given in
     λ n s m h. ap (λ (f : Frame). field f 0)
     (rw (c .before .frame .given .1) at (found-again (now (a .text)) place (one .result) (one .ensures .0) _ (output-place (now (a .text)) (a .at) s (a .k) (a .gates) m h) _ _ (got .1)))
@@ -76,7 +76,7 @@ output-at-spec =
     mul-place-2
     add-place-3
     returns
-    read-line-requires
+    output-line-requires
     enum-known-got
     returns-2
     enum-known-frame
