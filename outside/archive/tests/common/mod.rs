@@ -6,6 +6,7 @@
 
 pub mod calls;
 pub mod expected;
+pub mod extensions;
 pub mod garbage;
 pub mod list_texts;
 pub mod lists;
@@ -19,6 +20,7 @@ pub mod random;
 pub mod refutations;
 pub mod rewrites;
 pub mod samples;
+pub mod sizes;
 pub mod tally;
 pub mod texts;
 
