@@ -14,7 +14,7 @@ use common::proofs::{Proof, Step};
 use common::random::{seed, Random};
 use common::sizes::{EIGHT, MOST_CLAUSES};
 use common::tally::{outcomes, Tally};
-use common::{expected, garbage, hex, list_texts, patterns, samples};
+use common::{hex, judge, patterns, samples};
 
 /// How many proofs there are, and how many texts are made of each.
 const PROOFS: u64 = 50_000;
@@ -37,32 +37,14 @@ const SHOWN: [&str; 10] = [
     "a fault behind the empty clause",
 ];
 
-/// Numbers on both sides of the lent store, which nobody may write.
-const GUARD: usize = 16;
-
-/// Checks with both in garbage, and compares reply, store and guards. Gives the reply.
+/// Checks with both, and compares all that they leave. Gives the reply.
 fn compare(case: u64, about: &str, text: &[u8], length: usize) -> [u64; 4] {
     let mut random = Random::of_case(seed(), case ^ ((length as u64) << 32));
-    let garbage = garbage::numbers(&mut random, length + 2 * GUARD);
-    let mut lent = garbage.clone();
-    let mut wanted = garbage;
-    let behind = list_texts::with_bytes_behind(case, text);
-    let reply = check(&behind[..text.len()], &mut lent[GUARD..GUARD + length]);
-    let reference = expected::checking(text, &mut wanted[GUARD..GUARD + length]);
-    let about = || {
-        format!(
-            "seed {:#X}, case {case} ({about}), {} bytes {}, {length} store numbers",
-            seed(),
-            text.len(),
-            hex(text)
-        )
-    };
-    assert_eq!(reply, reference, "replies differ: {}", about());
-    if lent != wanted {
-        let place = lent.iter().zip(&wanted).position(|(a, b)| a != b);
-        panic!("stores with guards differ at {place:?}: {}", about());
-    }
-    reply
+    judge::check(&mut random, text, length).unwrap_or_else(|fault| {
+        let (seed, bytes, text) = (seed(), text.len(), hex(text));
+        let about = format!("seed {seed:#X}, case {case} ({about}), {length} store numbers");
+        panic!("{fault}: {about}, {bytes} bytes {text}")
+    })
 }
 
 /// A length around what the text needs, or any if its lists are refused.

@@ -4,18 +4,16 @@
 
 mod common;
 
-use cec_archive::{check, prove};
 use cec_reference::read_lists;
 use cec_reference::sample::LISTS;
-use common::garbage::{self, Lent};
 use common::list_texts::{self, over_two_inputs};
 use common::lists::Shape;
 use common::pairs::MOST_INPUTS;
 use common::random::{seed, Random};
 use common::rewrites::{self, Pair, SHOWN};
-use common::sizes::{self, Lengths, Sizes, EIGHT, LINE_BYTES, MOST_CLAUSES};
+use common::sizes::{self, Lengths, Sizes};
 use common::tally::{outcomes, Tally};
-use common::{expected, hex, patterns, places, samples};
+use common::{hex, judge, patterns, places, samples};
 
 const PAIRS: u64 = 200_000;
 const LIST_CASES: u64 = 60_000;
@@ -57,57 +55,12 @@ impl Call<'_> {
         panic!("{what}: seed {seed:#X}, case {case} ({about}), {lengths:?}, {bytes} bytes {text}")
     }
 
-    /// Proves in garbage and compares reply, working numbers, bytes behind the lines, and guards.
-    /// The proof is accepted. Gives the reply.
+    /// Proves with both, and compares all that they leave; the proof is accepted. Gives the reply.
     fn compare(&self) -> [u64; 3] {
         let Lengths { proof, work } = self.lengths;
         let mut random = Random::of_case(seed(), self.case ^ (((proof + work) as u64) << 32));
-        let mut lent_proof = Lent::new(&mut random, proof, garbage::bytes);
-        let mut lent_work = Lent::new(&mut random, work, garbage::numbers);
-        let behind = list_texts::with_bytes_behind(self.case, self.text);
-        let text = &behind[..self.text.len()];
-        let reply = prove(text, lent_proof.lent(), lent_work.lent());
-        let wanted = expected::proving(self.text, proof, work);
-        if reply[..2] != wanted {
-            self.fails(&format!("the reply is {reply:?} and not {wanted:?}"));
-        }
-        let lines = reply[2] as usize;
-        if reply[0] == 0 {
-            self.check(lines, lent_proof.lent());
-        } else if lines != 0 {
-            self.fails(&format!("{lines} lines after a refusal"));
-        }
-        if let Some(fault) = lent_proof.fault(LINE_BYTES * lines) {
-            self.fails(&format!("proof bytes: {fault}"));
-        }
-        if let Some(fault) = lent_work.fault(0) {
-            self.fails(&format!("working numbers: {fault}"));
-        }
-        reply
-    }
-
-    /// Both checkers accept the first lines, so many, and count them as steps. What is accepted in a
-    /// store is accepted in a longer one; so the longest is lent to long proofs and now and then.
-    fn check(&self, lines: usize, proof: &[u8]) {
-        let sizes = Sizes::of(self.text).expect("the lists were read");
-        if lines > sizes.line_bound() || LINE_BYTES * lines > proof.len() {
-            self.fails(&format!("{lines} lines"));
-        }
-        let text = [self.text, &proof[..LINE_BYTES * lines]].concat();
-        let enough = sizes.most_clauses() + lines;
-        let longest = lines > 1_000 || self.case.is_multiple_of(32);
-        let clauses = if longest { MOST_CLAUSES } else { enough };
-        let mut store = vec![0; EIGHT * clauses];
-        let wanted = expected::checking(&text, &mut store);
-        if wanted[..3] != [0, 0, lines as u64] {
-            self.fails(&format!(
-                "{lines} lines checked by the reference: {wanted:?}"
-            ));
-        }
-        let reply = check(&text, &mut store);
-        if reply != wanted {
-            self.fails(&format!("{lines} lines checked by the archive: {reply:?}"));
-        }
+        let judged = judge::prove(&mut random, self.text, self.lengths);
+        judged.unwrap_or_else(|fault| self.fails(&fault))
     }
 
     /// What the reply has to do with the lengths, or where the refusal falls due.

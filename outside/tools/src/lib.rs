@@ -5,3 +5,4 @@
 mod common;
 
 pub mod bench;
+pub mod fuzz;

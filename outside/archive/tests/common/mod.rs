@@ -8,6 +8,7 @@ pub mod calls;
 pub mod expected;
 pub mod extensions;
 pub mod garbage;
+pub mod judge;
 pub mod list_texts;
 pub mod lists;
 pub mod pairs;

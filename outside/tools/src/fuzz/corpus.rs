@@ -1,0 +1,129 @@
+//! Valid texts for each call, and some with a known fault, from which the mutations start.
+
+use super::target::Target;
+use crate::common::calls::{kinds, line};
+use crate::common::extensions::{all_variables, EXTENSIONS};
+use crate::common::lists::{List, LARGEST};
+use crate::common::proof_texts::{any, any_proof};
+use crate::common::random::Random;
+use crate::common::rewrites::{self, Pair};
+use crate::common::sizes::{Sizes, LINE_BYTES};
+use crate::common::{list_texts, samples, texts};
+
+/// How many small texts there are for each call.
+const SMALL: usize = 512;
+
+/// How often a large text is taken instead.
+const LARGE_IN: usize = 1_000;
+
+/// How often a text for another call is taken.
+const OTHER_IN: usize = 20;
+
+/// The texts of one call.
+struct Texts {
+    small: Vec<Vec<u8>>,
+    large: Vec<Vec<u8>>,
+}
+
+/// The texts of all calls, in the calls' order.
+pub struct Corpus([Texts; 4]);
+
+impl Corpus {
+    /// How many cases start from one corpus.
+    pub const CASES: u64 = 1 << 17;
+
+    /// The corpus of a case, by the seed.
+    pub fn of_case(seed: u64, case: u64) -> Self {
+        // The complement, so that no case has the same random numbers.
+        let mut random = Random::of_case(!seed, case / Self::CASES);
+        Self(Target::ALL.map(|target| Texts {
+            small: (0..SMALL).map(|_| small(&mut random, target)).collect(),
+            large: large(&mut random, target),
+        }))
+    }
+
+    /// A text for this call, in some cases one for another.
+    pub fn pick(&self, random: &mut Random, target: Target) -> &[u8] {
+        let target = if random.one_in(OTHER_IN) {
+            random.pick(&Target::ALL)
+        } else {
+            target
+        };
+        let Texts { small, large } = &self.0[target as usize];
+        let texts = if random.one_in(LARGE_IN) {
+            large
+        } else {
+            small
+        };
+        &texts[random.below(texts.len())]
+    }
+}
+
+fn small(random: &mut Random, target: Target) -> Vec<u8> {
+    match target {
+        Target::Check if random.one_in(3) => evidence(pair(random).text()),
+        Target::Check => {
+            let proof = any_proof(random);
+            any(random, &proof).text
+        }
+        Target::Prove if random.one_in(6) => list_texts::any(random, 2).1,
+        Target::Prove => pair(random).text(),
+        Target::Evaluate if random.one_in(6) => list_texts::any(random, 1).1,
+        Target::Evaluate => {
+            let shape = rewrites::any_shape(random);
+            List::random(random, shape).text()
+        }
+        Target::ReadFrame => {
+            let kind = random.pick(&kinds());
+            line(random, kind)
+        }
+    }
+}
+
+fn pair(random: &mut Random) -> Pair {
+    let shape = rewrites::any_shape(random);
+    Pair::any(random, shape)
+}
+
+/// Two lists with the engine's proof behind them, if there is one.
+fn evidence(lists: Vec<u8>) -> Vec<u8> {
+    let needed = Sizes::of(&lists).expect("the lists are read").needed();
+    let mut proof = vec![0; needed.proof];
+    let [_, _, lines] = cec_archive::prove(&lists, &mut proof, &mut vec![0; needed.work]);
+    proof.truncate(LINE_BYTES * lines as usize);
+    [lists, proof].concat()
+}
+
+fn large(random: &mut Random, target: Target) -> Vec<Vec<u8>> {
+    match target {
+        Target::Check => vec![
+            evidence(rewrites::large(random, 300).text()),
+            evidence(rewrites::large(random, LARGEST.gates).text()),
+            evidence(
+                [samples::GUARD, samples::GUARD_RENAMED]
+                    .map(samples::text)
+                    .concat(),
+            ),
+            one_variable_too_many(random),
+        ],
+        Target::Prove => {
+            let linked = ["02", "03"].map(|kind| list_texts::linked(kind).into());
+            let pairs = samples::pairs().map(|(_, lists, _)| lists);
+            let rewritten = rewrites::large(random, LARGEST.gates).text();
+            pairs.chain(linked).chain([rewritten]).collect()
+        }
+        Target::Evaluate => {
+            let samples = samples::ALL.map(|(sample, _)| samples::text(sample));
+            [&samples[..], &[List::random(random, LARGEST).text()]].concat()
+        }
+        Target::ReadFrame => vec![texts::long(random)],
+    }
+}
+
+/// Extensions that use up all variables, and one more, which is 13.
+fn one_variable_too_many(random: &mut Random) -> Vec<u8> {
+    let proof = all_variables(random, EXTENSIONS);
+    let mut lines = proof.lines();
+    lines.push(b"1200000000\n".to_vec());
+    proof.text(&lines)
+}
