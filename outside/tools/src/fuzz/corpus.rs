@@ -64,7 +64,13 @@ fn small(random: &mut Random, target: Target) -> Vec<u8> {
         Target::Check if random.one_in(3) => evidence(pair(random).text()),
         Target::Check => {
             let proof = any_proof(random);
-            any(random, &proof).text
+            let known = any(random, &proof).text;
+            let whole = proof.text(&proof.lines());
+            if random.one_in(2) {
+                known
+            } else {
+                whole
+            }
         }
         Target::Prove if random.one_in(6) => list_texts::any(random, 2).1,
         Target::Prove => pair(random).text(),

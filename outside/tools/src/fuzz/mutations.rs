@@ -11,7 +11,11 @@ use crate::common::texts;
 type Mutation = fn(&mut Random, &mut Vec<u8>, &[u8]);
 
 /// Those that stand here more than once come more often.
-const MUTATIONS: [Mutation; 16] = [
+const MUTATIONS: [Mutation; 20] = [
+    |random, text, _| fields::change(random, text),
+    |random, text, _| fields::change(random, text),
+    |random, text, _| fields::change(random, text),
+    |random, text, _| fields::change(random, text),
     |random, text, _| fields::change(random, text),
     |random, text, _| fields::change(random, text),
     |random, text, _| fields::change(random, text),
@@ -30,9 +34,9 @@ const MUTATIONS: [Mutation; 16] = [
     splice,
 ];
 
-/// Changes a text in up to six ways, one after the other; one text in five stays as it is.
+/// Changes a text in up to five ways, one after the other; a quarter of the texts stay as they are.
 pub fn mutate(random: &mut Random, text: &mut Vec<u8>, other: &[u8]) {
-    for _ in 0..random.pick(&[0, 0, 1, 1, 1, 1, 2, 2, 3, 6]) {
+    for _ in 0..random.pick(&[0, 0, 1, 1, 1, 1, 2, 5]) {
         let mutation = random.pick(&MUTATIONS);
         mutation(random, text, other);
     }
