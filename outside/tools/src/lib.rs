@@ -4,5 +4,7 @@
 #[path = "../../archive/tests/common/mod.rs"]
 mod common;
 
+mod evidence;
+
 pub mod bench;
 pub mod fuzz;

@@ -10,13 +10,13 @@ use std::hint::black_box;
 
 use super::measure::{enough, medians};
 use super::pairs::{self, Pairing, EXCHANGED, REWRITTEN};
-use super::prove::proof_of;
 use super::table::{with_commas, Row, Table, MICROSECONDS};
 use crate::common::lists::{Shape, LARGEST};
 use crate::common::proofs::Proof;
 use crate::common::random::{seed, Random};
 use crate::common::refutations::refute;
 use crate::common::sizes::{EIGHT, LINE_BYTES};
+use crate::evidence::proof_of;
 
 /// The pair of sample P12, XOR built from three ANDs against an XOR gate.
 const LISTS: &[u8] = b"0102000301\n0200020005\n0200030004\n0200070009\n04000B\n\

@@ -3,7 +3,7 @@
 use std::time::{Duration, Instant};
 
 /// How many times each side is timed, and for how long at least each time.
-const ROUNDS: usize = 31;
+const ROUNDS: usize = 32;
 const ROUND: Duration = Duration::from_micros(500);
 
 /// All texts of a size have so many bytes at least: on one short text again and again, branch

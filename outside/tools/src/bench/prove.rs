@@ -7,7 +7,7 @@ use super::measure::{enough, medians};
 use super::pairs::{self, Pairing, DOUBLINGS, EXCHANGED, FEWEST_GATES};
 use super::pairs::{LINKED, REWRITTEN, UNRELATED};
 use super::table::{with_commas, Row, Table, MICROSECONDS};
-use crate::common::sizes::{Lengths, Sizes, LINE_BYTES};
+use crate::common::sizes::{Lengths, Sizes};
 
 /// Two lists, and what an engine needs for them.
 struct Pair {
@@ -22,16 +22,6 @@ struct Lent {
     pairs: Vec<Pair>,
     proof: Vec<u8>,
     work: Vec<u16>,
-}
-
-/// The lines of the archive's proof for two lists whose forms are the same.
-pub fn proof_of(lists: &[u8]) -> Vec<u8> {
-    let needed = Sizes::of(lists).expect("the lists are read").needed();
-    let mut proof = vec![0; needed.proof];
-    let [refusal, _, lines] = cec_archive::prove(lists, &mut proof, &mut vec![0; needed.work]);
-    assert_eq!(refusal, 0);
-    proof.truncate(LINE_BYTES * lines as usize);
-    proof
 }
 
 /// Lets an engine that gives a refusal number, or 0, prove all pairs.

@@ -4,11 +4,11 @@ use super::target::Target;
 use crate::common::calls::{kinds, line};
 use crate::common::extensions::{all_variables, EXTENSIONS};
 use crate::common::lists::{List, LARGEST};
-use crate::common::proof_texts::{any, any_proof};
+use crate::common::proof_texts::{self, any_proof};
 use crate::common::random::Random;
 use crate::common::rewrites::{self, Pair};
-use crate::common::sizes::{Sizes, LINE_BYTES};
 use crate::common::{list_texts, samples, texts};
+use crate::evidence::proof_of;
 
 /// How many small texts there are for each call.
 const SMALL: usize = 512;
@@ -60,30 +60,33 @@ impl Corpus {
 }
 
 fn small(random: &mut Random, target: Target) -> Vec<u8> {
+    let often = !random.one_in(6);
     match target {
-        Target::Check if random.one_in(3) => evidence(pair(random).text()),
-        Target::Check => {
-            let proof = any_proof(random);
-            let known = any(random, &proof).text;
-            let whole = proof.text(&proof.lines());
-            if random.one_in(2) {
-                known
-            } else {
-                whole
-            }
-        }
-        Target::Prove if random.one_in(6) => list_texts::any(random, 2).1,
-        Target::Prove => pair(random).text(),
-        Target::Evaluate if random.one_in(6) => list_texts::any(random, 1).1,
-        Target::Evaluate => {
+        Target::Check => proof_text(random),
+        Target::Prove if often => pair(random).text(),
+        Target::Prove => list_texts::any(random, 2).1,
+        Target::Evaluate if often => {
             let shape = rewrites::any_shape(random);
             List::random(random, shape).text()
         }
+        Target::Evaluate => list_texts::any(random, 1).1,
         Target::ReadFrame => {
             let kind = random.pick(&kinds());
             line(random, kind)
         }
     }
+}
+
+/// The engine's evidence, a refutation by cases on the inputs, or one of the tests' texts.
+fn proof_text(random: &mut Random) -> Vec<u8> {
+    if random.one_in(3) {
+        return evidence(pair(random).text());
+    }
+    let proof = any_proof(random);
+    if random.one_in(2) {
+        return proof.text(&proof.lines());
+    }
+    proof_texts::any(random, &proof).text
 }
 
 fn pair(random: &mut Random) -> Pair {
@@ -93,23 +96,17 @@ fn pair(random: &mut Random) -> Pair {
 
 /// Two lists with the engine's proof behind them, if there is one.
 fn evidence(lists: Vec<u8>) -> Vec<u8> {
-    let needed = Sizes::of(&lists).expect("the lists are read").needed();
-    let mut proof = vec![0; needed.proof];
-    let [_, _, lines] = cec_archive::prove(&lists, &mut proof, &mut vec![0; needed.work]);
-    proof.truncate(LINE_BYTES * lines as usize);
+    let proof = proof_of(&lists);
     [lists, proof].concat()
 }
 
 fn large(random: &mut Random, target: Target) -> Vec<Vec<u8>> {
+    let guards = [samples::GUARD, samples::GUARD_RENAMED].map(samples::text);
     match target {
         Target::Check => vec![
             evidence(rewrites::large(random, 300).text()),
             evidence(rewrites::large(random, LARGEST.gates).text()),
-            evidence(
-                [samples::GUARD, samples::GUARD_RENAMED]
-                    .map(samples::text)
-                    .concat(),
-            ),
+            evidence(guards.concat()),
             one_variable_too_many(random),
         ],
         Target::Prove => {
