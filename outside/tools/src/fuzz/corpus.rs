@@ -2,7 +2,7 @@
 
 use super::target::Target;
 use crate::common::calls::{kinds, line};
-use crate::common::extensions::{all_variables, EXTENSIONS};
+use crate::common::extensions::{all_variables, refute_smallest};
 use crate::common::lists::{List, LARGEST};
 use crate::common::proof_texts::{self, any_proof};
 use crate::common::random::Random;
@@ -103,12 +103,13 @@ fn evidence(lists: Vec<u8>) -> Vec<u8> {
 fn large(random: &mut Random, target: Target) -> Vec<Vec<u8>> {
     let guards = [samples::GUARD, samples::GUARD_RENAMED].map(samples::text);
     match target {
-        Target::Check => vec![
-            evidence(rewrites::large(random, 300).text()),
-            evidence(rewrites::large(random, LARGEST.gates).text()),
-            evidence(guards.concat()),
-            one_variable_too_many(random),
-        ],
+        Target::Check => {
+            let lists = [300, LARGEST.gates].map(|gates| rewrites::large(random, gates).text());
+            let lists = lists.into_iter().chain([guards.concat()]);
+            let ended = variables_used_up(random).into_iter();
+            let ended = ended.chain([clauses_used_up(random)]);
+            lists.map(evidence).chain(ended).collect()
+        }
         Target::Prove => {
             let linked = ["02", "03"].map(|kind| list_texts::linked(kind).into());
             let pairs = samples::pairs().map(|(_, lists, _)| lists);
@@ -123,10 +124,25 @@ fn large(random: &mut Random, target: Target) -> Vec<Vec<u8>> {
     }
 }
 
-/// Extensions that use up all variables, and one more, which is 13.
-fn one_variable_too_many(random: &mut Random) -> Vec<u8> {
-    let proof = all_variables(random, EXTENSIONS);
-    let mut lines = proof.lines();
-    lines.push(b"1200000000\n".to_vec());
-    proof.text(&lines)
+/// Lines behind extensions by XOR that use up all variables, with space for one clause more: a
+/// variable too many, one that is not there, both, a clause, and one too many.
+const ENDS: [&[u8]; 5] = [
+    b"1200000000\n",
+    b"1100010002FFFF\n",
+    b"1300008000\n",
+    b"11000600020001\n",
+    b"11000600020001\n11000600020001\n",
+];
+
+fn variables_used_up(random: &mut Random) -> [Vec<u8>; 5] {
+    let proof = all_variables(random, 0);
+    let text = proof.text(&proof.lines());
+    ENDS.map(|end| [&text, end].concat())
+}
+
+/// An accepted proof with all variables and all clauses in use.
+fn clauses_used_up(random: &mut Random) -> Vec<u8> {
+    let mut proof = all_variables(random, 1);
+    refute_smallest(&mut proof);
+    proof.text(&proof.lines())
 }

@@ -42,9 +42,11 @@ pub fn mutate(random: &mut Random, text: &mut Vec<u8>, other: &[u8]) {
     }
 }
 
-/// The place of a random line with its LF; of nothing in an empty text.
+/// The place of a random line with its LF, often the last; of nothing in an empty text.
 pub fn any_line(random: &mut Random, text: &[u8]) -> Range<usize> {
-    let at = random.below(text.len().max(1));
+    let any = random.below(text.len().max(1));
+    let last = text.len().saturating_sub(1);
+    let at = random.pick(&[any, any, any, last]);
     let is_end = |&byte: &u8| byte == b'\n';
     let start = text.iter().take(at).rposition(is_end);
     let length = text.iter().skip(at).position(is_end);
