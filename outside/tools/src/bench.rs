@@ -3,6 +3,7 @@
 //! take turns, and medians are printed.
 
 mod check;
+mod clock;
 mod evaluate;
 mod measure;
 mod pairs;

@@ -10,7 +10,7 @@ use std::hint::black_box;
 
 use super::measure::{enough, medians};
 use super::pairs::{self, Pairing, EXCHANGED, REWRITTEN};
-use super::table::{with_commas, Row, Table, MICROSECONDS};
+use super::table::{Row, Table, MICROSECONDS};
 use crate::common::lists::{Shape, LARGEST};
 use crate::common::proofs::Proof;
 use crate::common::random::{seed, Random};
@@ -129,7 +129,8 @@ fn add(table: &mut Table, series: &'static str, text: impl Fn(u64) -> Accepted) 
     let bytes = lent.texts.iter().map(|accepted| accepted.text.len()).sum();
     table.add(Row {
         series,
-        size: format!("{} bytes", with_commas(bytes / texts)),
+        unit: "bytes",
+        size: bytes / texts,
         texts,
         bytes,
         times: medians(sides, &mut lent),

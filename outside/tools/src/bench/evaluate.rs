@@ -4,7 +4,7 @@ use std::hint::black_box;
 
 use super::measure::{enough, medians};
 use super::pairs::{self, DOUBLINGS, FEWEST_GATES};
-use super::table::{with_commas, Row, Table, MICROSECONDS};
+use super::table::{Row, Table, MICROSECONDS};
 use crate::common::random::{seed, Random};
 
 /// What an evaluator is lent: lists, each with a pattern, and working bytes for each.
@@ -42,7 +42,8 @@ pub fn lists() -> Table {
         };
         table.add(Row {
             series: "random lists, 64 outputs",
-            size: format!("{} gates", with_commas(gates)),
+            unit: "gates",
+            size: gates,
             texts: lent.lists.len(),
             bytes: lent.lists.iter().map(|(text, _)| text.len()).sum(),
             times: medians([evaluate_by_archive, evaluate_by_reference], &mut lent),

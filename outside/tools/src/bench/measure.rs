@@ -1,10 +1,10 @@
 //! Two sides that take turns on many texts of a size, and their medians.
 
-use std::time::{Duration, Instant};
+use super::clock::now;
 
-/// How many times each side is timed, and for how long at least each time.
+/// How many times each side is timed, and for how many nanoseconds at least each time.
 const ROUNDS: usize = 32;
-const ROUND: Duration = Duration::from_micros(500);
+const ROUND: f64 = 5e5;
 
 /// All texts of a size have so many bytes at least: on one short text again and again, branch
 /// prediction learns every branch, and no longer text could be as fast. There are some of each size,
@@ -26,11 +26,11 @@ pub fn enough<T>(make: impl Fn(u64) -> T, bytes: impl Fn(&T) -> usize) -> Vec<T>
 
 /// The time of one round over all that is lent, in nanoseconds, out of so many.
 fn time<T>(side: fn(&mut T), calls: usize, lent: &mut T) -> f64 {
-    let start = Instant::now();
+    let start = now();
     for _ in 0..calls {
         side(lent);
     }
-    start.elapsed().as_secs_f64() * 1e9 / calls as f64
+    (now() - start) / calls as f64
 }
 
 fn median(mut times: Vec<f64>) -> f64 {
@@ -42,7 +42,7 @@ fn median(mut times: Vec<f64>) -> f64 {
 pub fn medians<T>(sides: [fn(&mut T); 2], lent: &mut T) -> [f64; 2] {
     let calls = sides.map(|side| {
         let once = time(side, 1, lent);
-        1 + (ROUND.as_nanos() as f64 / once) as usize
+        1 + (ROUND / once) as usize
     });
     let mut times = [Vec::new(), Vec::new()];
     for round in 0..ROUNDS {

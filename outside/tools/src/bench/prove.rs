@@ -6,7 +6,7 @@ use std::hint::black_box;
 use super::measure::{enough, medians};
 use super::pairs::{self, Pairing, DOUBLINGS, EXCHANGED, FEWEST_GATES};
 use super::pairs::{LINKED, REWRITTEN, UNRELATED};
-use super::table::{with_commas, Row, Table, MICROSECONDS};
+use super::table::{Row, Table, MICROSECONDS};
 use crate::common::sizes::{Lengths, Sizes};
 
 /// Two lists, and what an engine needs for them.
@@ -79,7 +79,8 @@ fn add(table: &mut Table, pairing: Pairing, gates: usize) {
     };
     table.add(Row {
         series: pairing.0,
-        size: format!("{} gates a side", with_commas(gates)),
+        unit: "gates a side",
+        size: gates,
         texts: lent.pairs.len(),
         bytes: lent.pairs.iter().map(|pair| pair.text.len()).sum(),
         times: medians([prove_by_archive, prove_by_reference], &mut lent),

@@ -6,7 +6,7 @@ use std::hint::black_box;
 
 use super::measure::{enough, medians};
 use super::pairs::{self, DOUBLINGS, FEWEST_GATES, UNRELATED};
-use super::table::{with_commas, Row, Table, MEGABYTES};
+use super::table::{Row, Table, MEGABYTES};
 
 fn read_by_archive(texts: &mut Vec<Vec<u8>>) {
     for text in texts {
@@ -30,7 +30,8 @@ pub fn pairs() -> Table {
         let mut texts = enough(pair, Vec::len);
         table.add(Row {
             series: "random lists, 64 outputs",
-            size: format!("{} gates a side", with_commas(gates)),
+            unit: "gates a side",
+            size: gates,
             texts: texts.len(),
             bytes: texts.iter().map(Vec::len).sum(),
             times: medians([read_by_archive, read_by_reference], &mut texts),

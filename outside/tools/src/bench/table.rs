@@ -18,10 +18,12 @@ pub struct Table {
     rows: Vec<Row>,
 }
 
-/// One size of a series, in which each is twice the one before.
+/// One size of a series, in which each is about twice the one before.
 pub struct Row {
     pub series: &'static str,
-    pub size: String,
+    /// What a text has so many of, and how many.
+    pub unit: &'static str,
+    pub size: usize,
     /// How many texts there are, and the bytes of all.
     pub texts: usize,
     pub bytes: usize,
@@ -36,10 +38,14 @@ impl Row {
     }
 
     /// A side's time over that of half as much, which is in the row before if that is of the series.
+    /// Where that is not quite the half, it is taken in proportion.
     fn growth(&self, before: Option<&Row>, side: usize) -> Option<f64> {
         let before = before.filter(|before| before.series == self.series)?;
-        let [time, half] = [self, before].map(|row| row.times[side] / row.texts as f64);
-        Some(time / half)
+        let [time, half] = [self, before].map(|row| {
+            let all = row.texts * row.size;
+            row.times[side] / all as f64
+        });
+        Some(2.0 * time / half)
     }
 }
 
@@ -75,9 +81,9 @@ impl Table {
         });
         let is_first = of_ours.is_empty();
         let series = if is_first { row.series } else { "" };
-        let (size, ratio) = (&row.size, row.ratio());
+        let (size, unit, ratio) = (with_commas(row.size), row.unit, row.ratio());
         format!(
-            "| {series} | {size} | {ours:.1} | {rust:.1} | {ratio:.2} | {of_ours} | {of_rust} |"
+            "| {series} | {size} {unit} | {ours:.1} | {rust:.1} | {ratio:.2} | {of_ours} | {of_rust} |"
         )
     }
 }
@@ -102,7 +108,7 @@ impl fmt::Display for Table {
 }
 
 /// A number with commas, as a size is printed.
-pub fn with_commas(number: usize) -> String {
+fn with_commas(number: usize) -> String {
     match number {
         0..1_000 => number.to_string(),
         _ => format!("{},{:03}", with_commas(number / 1_000), number % 1_000),
