@@ -1,10 +1,11 @@
 //! The checker, on accepted texts from about 1 KB to 1 MB, in two tables.
 //!
 //! 'Proof lines' are texts whose lists are the eight lines of P12: all else is proof, so that the
-//! time is that of proof lines, with the store's clearing. 'Whole texts' are two lists, 8 to 1,024
-//! gates a side, and the archive's own proof of them: reading, the miter's clauses and the proof
-//! each have their share, as in evidence. Where 1,024 gates are not enough, lines of the proof come
-//! again.
+//! time is that of proof lines, with the store's clearing. Random resolves begin with short clauses,
+//! and so the shortest texts take less for a line than longer ones. 'Whole texts' are two lists, 8
+//! to 1,024 gates a side, and the archive's own proof of them: reading, the miter's clauses and the
+//! proof each have their share, as in evidence. Where 1,024 gates are not enough, lines of the proof
+//! come again.
 
 use std::hint::black_box;
 
