@@ -4,15 +4,17 @@
 mod common;
 
 use cec_archive::{check, evaluate};
+use cec_reference::read_lists;
 use cec_reference::sample::PROOF;
-use cec_reference::{read_lists, Clause};
+use common::extensions::{all_variables, refute_smallest, EXTENSIONS};
 use common::lists::{List, LARGEST};
 use common::pairs::MOST_INPUTS;
 use common::proof_texts::{self, bench, ProofText, P5};
-use common::proofs::{Proof, Step, EXTEND_BY_AND, EXTEND_BY_XOR};
+use common::proofs::{Proof, Step};
 use common::random::{seed, Random};
+use common::sizes::{EIGHT, MOST_CLAUSES};
 use common::tally::{outcomes, Tally};
-use common::{expected, garbage, hex, list_texts, patterns, samples};
+use common::{hex, judge, patterns, samples};
 
 /// How many proofs there are, and how many texts are made of each.
 const PROOFS: u64 = 50_000;
@@ -20,10 +22,6 @@ const TEXTS: u64 = 8;
 
 /// How many texts have lists of any size.
 const LIST_CASES: u64 = 60_000;
-
-/// The numbers of a clause in the store, and the most clauses that one holds.
-const EIGHT: usize = Clause::MOST_LITERALS;
-const MOST_CLAUSES: usize = 65_535;
 
 /// What the steps of whole proofs and a known fault can show.
 const SHOWN: [&str; 10] = [
@@ -39,32 +37,14 @@ const SHOWN: [&str; 10] = [
     "a fault behind the empty clause",
 ];
 
-/// Numbers on both sides of the lent store, which nobody may write.
-const GUARD: usize = 16;
-
-/// Checks with both in garbage, and compares reply, store and guards. Gives the reply.
+/// Checks with both, and compares all that they leave. Gives the reply.
 fn compare(case: u64, about: &str, text: &[u8], length: usize) -> [u64; 4] {
     let mut random = Random::of_case(seed(), case ^ ((length as u64) << 32));
-    let garbage = garbage::numbers(&mut random, length + 2 * GUARD);
-    let mut lent = garbage.clone();
-    let mut wanted = garbage;
-    let behind = list_texts::with_bytes_behind(case, text);
-    let reply = check(&behind[..text.len()], &mut lent[GUARD..GUARD + length]);
-    let reference = expected::checking(text, &mut wanted[GUARD..GUARD + length]);
-    let about = || {
-        format!(
-            "seed {:#X}, case {case} ({about}), {} bytes {}, {length} store numbers",
-            seed(),
-            text.len(),
-            hex(text)
-        )
-    };
-    assert_eq!(reply, reference, "replies differ: {}", about());
-    if lent != wanted {
-        let place = lent.iter().zip(&wanted).position(|(a, b)| a != b);
-        panic!("stores with guards differ at {place:?}: {}", about());
-    }
-    reply
+    judge::check(&mut random, text, length).unwrap_or_else(|fault| {
+        let (seed, bytes, text) = (seed(), text.len(), hex(text));
+        let about = format!("seed {seed:#X}, case {case} ({about}), {length} store numbers");
+        panic!("{fault}: {about}, {bytes} bytes {text}")
+    })
 }
 
 /// A length around what the text needs, or any if its lists are refused.
@@ -430,34 +410,6 @@ fn the_largest_lists_are_checked_alike() {
     tally.finish_within("the largest lists", 100, &reached, &numbers);
 }
 
-/// The smallest miter: no inputs, no gates, false on both sides. Its variables are 0 and z, and its
-/// clauses (¬0), (0, ¬z), (0, ¬0, z), (0, ¬0, z), (¬0, ¬z), (z).
-const SMALLEST: &str = "0100000001\n040000\n0100000001\n040000\n";
-
-/// How many extensions use up all variables of that miter.
-const EXTENSIONS: usize = 16_382;
-
-/// That miter with all variables in use, by this many ANDs and then XORs of random operands.
-fn all_variables(random: &mut Random, ands: usize) -> Proof {
-    let mut proof = Proof::of(SMALLEST.into()).expect("the lists are read");
-    for extension in 0..EXTENSIONS {
-        let kind = if extension < ands {
-            EXTEND_BY_AND
-        } else {
-            EXTEND_BY_XOR
-        };
-        let operands = [(); 2].map(|()| random.below(2 * usize::from(proof.variables)) as u16);
-        proof.take(Step::extend(kind, operands));
-    }
-    proof
-}
-
-/// Takes (0) from (z) and (0, ¬z), and from it and (¬0) the empty clause.
-fn refute_smallest(proof: &mut Proof) {
-    let zero = proof.take(Step::resolve(6, 2, 1)).expect("it is valid");
-    proof.take(Step::resolve(zero, 1, 0)).expect("it is valid");
-}
-
 /// Compares in stores of the most clauses, and of more numbers than that, and gives the reply.
 fn compare_in_most(case: u64, about: &str, text: &[u8]) -> [u64; 4] {
     let most = EIGHT * MOST_CLAUSES;
@@ -542,24 +494,21 @@ fn long_proofs_are_checked_alike() {
 #[test]
 fn sample_lists_are_checked_alike() {
     let mut tally = Tally::default();
-    for (case, (left, _)) in (0..).zip(samples::ALL) {
-        for (right, _) in samples::ALL {
-            let lists = [left, right].map(samples::text).concat();
-            let [number, ..] = compare(case, left, &lists, EIGHT * MOST_CLAUSES);
+    for (case, (about, lists, _)) in (0..).zip(samples::pairs()) {
+        let [number, ..] = compare(case, &about, &lists, EIGHT * MOST_CLAUSES);
+        tally.count(number.to_string());
+        let Some(mut proof) = Proof::of(lists) else {
+            continue;
+        };
+        let mut random = Random::of_case(seed(), case);
+        for _ in 0..500 {
+            proof.take_random(&mut random);
+        }
+        let text = proof.text(&proof.lines());
+        let enough = EIGHT * proof.clauses.len();
+        for length in [EIGHT, enough - 1, enough, enough + 9] {
+            let [number, ..] = compare(case, &about, &text, length);
             tally.count(number.to_string());
-            let Some(mut proof) = Proof::of(lists) else {
-                continue;
-            };
-            let mut random = Random::of_case(seed(), case);
-            for _ in 0..500 {
-                proof.take_random(&mut random);
-            }
-            let text = proof.text(&proof.lines());
-            let enough = EIGHT * proof.clauses.len();
-            for length in [EIGHT, enough - 1, enough, enough + 9] {
-                let [number, ..] = compare(case, left, &text, length);
-                tally.count(number.to_string());
-            }
         }
     }
     tally.finish("pairs of sample lists", 29, &outcomes(&[6, 8, 14, 15]));

@@ -4,26 +4,20 @@
 
 mod common;
 
-use cec_archive::{check, prove};
 use cec_reference::read_lists;
 use cec_reference::sample::LISTS;
-use common::garbage::{self, Lent};
 use common::list_texts::{self, over_two_inputs};
-use common::lists::{Shape, LARGEST};
+use common::lists::Shape;
 use common::pairs::MOST_INPUTS;
 use common::random::{seed, Random};
 use common::rewrites::{self, Pair, SHOWN};
+use common::sizes::{self, Lengths, Sizes};
 use common::tally::{outcomes, Tally};
-use common::{expected, hex, patterns, places, samples};
+use common::{hex, judge, patterns, places, samples};
 
 const PAIRS: u64 = 200_000;
 const LIST_CASES: u64 = 60_000;
 const LARGE_CASES: u64 = 100;
-
-/// The bytes of a proof line, the numbers of a clause in the store, and the most clauses of one.
-const LINE_BYTES: usize = 15;
-const EIGHT: usize = 8;
-const MOST_CLAUSES: usize = 65_535;
 
 /// What the pairs are, and what is said of them. One that is only rewritten is always proved, and
 /// one with outputs complemented never.
@@ -38,67 +32,9 @@ const VERDICTS: [&str; 8] = [
     "lists that agree: 18",
 ];
 
-/// The sizes of a text of two lists.
-#[derive(Clone, Copy, Debug)]
-struct Sizes {
-    inputs: usize,
-    /// Of both lists.
-    gates: usize,
-    outputs: usize,
-}
-
-impl Sizes {
-    /// None if the text is refused.
-    fn of(text: &[u8]) -> Option<Self> {
-        let [refusal, _, numbers @ ..] = expected::lists_reading(text);
-        let [inputs, left, right, outputs] = numbers.map(|number| number as usize);
-        (refusal == 0).then_some(Self {
-            inputs,
-            gates: left + right,
-            outputs,
-        })
-    }
-
-    /// "at most 16 × (gates of both lists) + 12 × outputs lines".
-    fn line_bound(self) -> usize {
-        16 * self.gates + 12 * self.outputs
-    }
-
-    /// The memory that suffices.
-    fn needed(self) -> Lengths {
-        Lengths {
-            proof: LINE_BYTES * self.line_bound(),
-            work: 16 * (1 + self.inputs + self.gates),
-        }
-    }
-
-    /// No miter of these sizes has more clauses: a gate and a z have four, a w three.
-    fn most_clauses(self) -> usize {
-        2 + 4 * self.gates + 7 * self.outputs
-    }
-}
-
-/// How much memory is lent: proof bytes and working numbers.
-#[derive(Clone, Copy, Debug, PartialEq, Eq)]
-struct Lengths {
-    proof: usize,
-    work: usize,
-}
-
-/// A length around what is needed, mostly enough.
-fn any_length(random: &mut Random, needed: usize) -> usize {
-    let less = random.below(needed);
-    let more = needed + 1 + random.below(100);
-    if random.one_in(10) {
-        random.pick(&[0, less, needed - 1])
-    } else {
-        random.pick(&[needed, needed, needed, needed + 1, more])
-    }
-}
-
 fn any_lengths(random: &mut Random, sizes: Option<Sizes>) -> Lengths {
     let [proof, work] = match sizes.map(Sizes::needed) {
-        Some(needed) => [needed.proof, needed.work].map(|needed| any_length(random, needed)),
+        Some(needed) => [needed.proof, needed.work].map(|needed| sizes::around(random, needed)),
         None => [(); 2].map(|()| random.pick(&[0, 1, 47, 420, 2_000])),
     };
     Lengths { proof, work }
@@ -119,57 +55,12 @@ impl Call<'_> {
         panic!("{what}: seed {seed:#X}, case {case} ({about}), {lengths:?}, {bytes} bytes {text}")
     }
 
-    /// Proves in garbage and compares reply, working numbers, bytes behind the lines, and guards.
-    /// The proof is accepted. Gives the reply.
+    /// Proves with both, and compares all that they leave; the proof is accepted. Gives the reply.
     fn compare(&self) -> [u64; 3] {
         let Lengths { proof, work } = self.lengths;
         let mut random = Random::of_case(seed(), self.case ^ (((proof + work) as u64) << 32));
-        let mut lent_proof = Lent::new(&mut random, proof, garbage::bytes);
-        let mut lent_work = Lent::new(&mut random, work, garbage::numbers);
-        let behind = list_texts::with_bytes_behind(self.case, self.text);
-        let text = &behind[..self.text.len()];
-        let reply = prove(text, lent_proof.lent(), lent_work.lent());
-        let wanted = expected::proving(self.text, proof, work);
-        if reply[..2] != wanted {
-            self.fails(&format!("the reply is {reply:?} and not {wanted:?}"));
-        }
-        let lines = reply[2] as usize;
-        if reply[0] == 0 {
-            self.check(lines, lent_proof.lent());
-        } else if lines != 0 {
-            self.fails(&format!("{lines} lines after a refusal"));
-        }
-        if let Some(fault) = lent_proof.fault(LINE_BYTES * lines) {
-            self.fails(&format!("proof bytes: {fault}"));
-        }
-        if let Some(fault) = lent_work.fault(0) {
-            self.fails(&format!("working numbers: {fault}"));
-        }
-        reply
-    }
-
-    /// Both checkers accept the first lines, so many, and count them as steps. What is accepted in a
-    /// store is accepted in a longer one; so the longest is lent to long proofs and now and then.
-    fn check(&self, lines: usize, proof: &[u8]) {
-        let sizes = Sizes::of(self.text).expect("the lists were read");
-        if lines > sizes.line_bound() || LINE_BYTES * lines > proof.len() {
-            self.fails(&format!("{lines} lines"));
-        }
-        let text = [self.text, &proof[..LINE_BYTES * lines]].concat();
-        let enough = sizes.most_clauses() + lines;
-        let longest = lines > 1_000 || self.case.is_multiple_of(32);
-        let clauses = if longest { MOST_CLAUSES } else { enough };
-        let mut store = vec![0; EIGHT * clauses];
-        let wanted = expected::checking(&text, &mut store);
-        if wanted[..3] != [0, 0, lines as u64] {
-            self.fails(&format!(
-                "{lines} lines checked by the reference: {wanted:?}"
-            ));
-        }
-        let reply = check(&text, &mut store);
-        if reply != wanted {
-            self.fails(&format!("{lines} lines checked by the archive: {reply:?}"));
-        }
+        let judged = judge::prove(&mut random, self.text, self.lengths);
+        judged.unwrap_or_else(|fault| self.fails(&fault))
     }
 
     /// What the reply has to do with the lengths, or where the refusal falls due.
@@ -401,9 +292,7 @@ fn folds_by_hand() {
 fn pairs_are_proved_alike() {
     let mut reached = Reached::default();
     for case in 0..PAIRS {
-        let mut random = Random::of_case(seed(), case);
-        let shape = rewrites::any_shape(&mut random);
-        let pair = Pair::any(&mut random, shape);
+        let (pair, mut random) = rewrites::small(case);
         reached.compare(&mut random, case, &pair);
     }
     reached.outcomes.finish("pairs", PAIRS, &pair_outcomes());
@@ -450,13 +339,8 @@ fn large_pairs_are_proved_alike() {
     let mut reached = Reached::default();
     for case in 0..LARGE_CASES {
         let mut random = Random::of_case(seed(), case);
-        let shape = Shape {
-            inputs: random.pick(&[4, 16, 64, 64]),
-            gates: random.pick(&[600, 1_000, 1_024, 1_024]),
-            ..LARGEST
-        };
-        let left = rewrites::coincident(&mut random, shape);
-        let mut pair = rewrites::rewritten(&mut random, left);
+        let gates = random.pick(&[600, 1_000, 1_024, 1_024]);
+        let mut pair = rewrites::large(&mut random, gates);
         reached.compare(&mut random, case, &pair);
         pair.complement_outputs(&mut random);
         reached.compare(&mut random, case, &pair);
@@ -537,21 +421,17 @@ fn every_byte_and_every_cut_is_answered_alike() {
 #[test]
 fn sample_lists_are_proved_alike() {
     let mut tally = Tally::default();
-    for (left, _) in samples::ALL {
-        for (right, _) in samples::ALL {
-            let text = [left, right].map(samples::text).concat();
-            let sizes = Sizes::of(&text);
-            let call = Call {
-                case: 0,
-                about: left,
-                text: &text,
-                lengths: sizes.map_or(Lengths { proof: 9, work: 9 }, Sizes::needed),
-            };
-            let guards = [left, right].map(|sample| sample != samples::ADDER);
-            let number = if guards[0] == guards[1] { 0 } else { 6 };
-            assert_eq!(call.compare()[0], number, "{left} and {right}");
-            tally.count(number.to_string());
-        }
+    for (about, text, alike) in samples::pairs() {
+        let sizes = Sizes::of(&text);
+        let call = Call {
+            case: 0,
+            about: &about,
+            text: &text,
+            lengths: sizes.map_or(Lengths { proof: 9, work: 9 }, Sizes::needed),
+        };
+        let number = if alike { 0 } else { 6 };
+        assert_eq!(call.compare()[0], number, "{about}");
+        tally.count(number.to_string());
     }
     tally.finish("pairs of sample lists", 9, &outcomes(&[0, 6]));
 }

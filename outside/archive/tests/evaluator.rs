@@ -7,7 +7,7 @@ use cec_archive::evaluate;
 use common::lists::{List, Shape, LARGEST};
 use common::random::{seed, Random};
 use common::tally::Tally;
-use common::{expected, garbage, hex, list_texts, places, samples};
+use common::{expected, hex, judge, list_texts, places, samples};
 
 const CASES: u64 = 200_000;
 const SAMPLE_PATTERNS: u64 = 4_000;
@@ -16,35 +16,14 @@ const LARGE_CASES: u64 = 500;
 /// The working bytes that suffice for every list.
 const ENOUGH: usize = 1 + 64 + 1_024;
 
-/// Bytes on both sides of the lent working memory, which nobody may write.
-const GUARD: usize = 16;
-
-/// Evaluates with both in garbage, and compares reply, working memory and guards. Gives the reply.
+/// Evaluates with both, and compares all that they leave. Gives the reply.
 fn compare(case: u64, about: &str, text: &[u8], pattern: u64, length: usize) -> [u64; 3] {
     let mut random = Random::of_case(seed(), case ^ ((length as u64) << 32));
-    let garbage = garbage::bytes(&mut random, length + 2 * GUARD);
-    let mut lent = garbage.clone();
-    let mut wanted = garbage;
-    let behind = list_texts::with_bytes_behind(case, text);
-    let reply = evaluate(
-        &behind[..text.len()],
-        pattern,
-        &mut lent[GUARD..GUARD + length],
-    );
-    let reference = expected::evaluating(text, pattern, &mut wanted[GUARD..GUARD + length]);
-    let about = || {
-        format!(
-            "seed {:#X}, case {case} ({about}), pattern {pattern:016X}, {} bytes {}, {length} \
-             working bytes",
-            seed(),
-            text.len(),
-            hex(text)
-        )
-    };
-    assert_eq!(reply, reference, "replies differ: {}", about());
-    let place = lent.iter().zip(&wanted).position(|(a, b)| a != b);
-    assert_eq!(place, None, "memories with guards differ: {}", about());
-    reply
+    judge::evaluate(&mut random, text, pattern, length).unwrap_or_else(|fault| {
+        let (seed, bytes, text) = (seed(), text.len(), hex(text));
+        let about = format!("seed {seed:#X}, case {case} ({about}), {length} working bytes");
+        panic!("{fault}: {about}, pattern {pattern:016X}, {bytes} bytes {text}")
+    })
 }
 
 /// The word of a list that is evaluated in just enough bytes.

@@ -6,7 +6,7 @@ mod common;
 use cec_archive::{read_frame, write_frame};
 use common::random::{seed, Random};
 use common::tally::Tally;
-use common::{calls, expected, hex, texts};
+use common::{calls, expected, hex, judge, texts};
 
 const READ_CASES: u64 = 300_000;
 const LONG_CASES: u64 = 64;
@@ -21,20 +21,12 @@ const GUARD: usize = 16;
 
 /// Reads the text with both, compares the whole reply, and counts the outcome.
 fn compare_reading(tally: &mut Tally, case: u64, about: &str, text: &[u8]) {
-    // An LF stands right behind the text: a reader that looks past the end would take it.
-    let mut lent = text.to_vec();
-    lent.push(b'\n');
-    let archive = read_frame(&lent[..text.len()]);
-    let reference = expected::reading(text);
-    assert_eq!(
-        archive,
-        reference,
-        "archive and reference differ: seed {:#X}, case {case} ({about}), {} bytes {}",
-        seed(),
-        text.len(),
-        hex(text)
-    );
-    tally.count(read_outcome(reference));
+    let reply = judge::read_frame(&mut Random::of_case(seed(), case), text);
+    let reply = reply.unwrap_or_else(|fault| {
+        let (seed, bytes, text) = (seed(), text.len(), hex(text));
+        panic!("{fault}: seed {seed:#X}, case {case} ({about}), {bytes} bytes {text}")
+    });
+    tally.count(read_outcome(reply));
 }
 
 fn read_outcome(reply: [u64; 7]) -> String {

@@ -9,11 +9,12 @@ use cec_archive::{check, prove};
 use cec_reference::report;
 use cec_reference::sample::{LISTS, PROOF};
 use common::list_texts::{self, over_two_inputs};
-use common::lists::{Shape, LARGEST};
+use common::lists::LARGEST;
 use common::programs::{self, printed, Ended};
 use common::proof_texts::bench;
 use common::random::{seed, Random};
 use common::rewrites::{self, Pair};
+use common::sizes::{LINE_BYTES, MOST_CLAUSES};
 use common::tally::{outcomes, Tally};
 use common::texts::digits;
 use common::{hex, samples};
@@ -31,10 +32,8 @@ const STREAM_BYTES: usize = 65_536;
 const PROOF_BYTES: usize = LINE_BYTES * (16 * 2 * LARGEST.gates + 12 * LARGEST.outputs);
 const WORK_NUMBERS: usize = 16 * (1 + LARGEST.inputs + 2 * LARGEST.gates);
 
-/// The bytes of a proof line, and the clauses of the checking program's store and of the longest.
-const LINE_BYTES: usize = 15;
+/// The clauses of the checking program's store.
 const CLAUSES: usize = 4_096;
-const MOST_CLAUSES: usize = 65_535;
 
 /// Evidence, and what the checking program says of it. It has less room than evidence may need.
 const ACCEPTED: &str = "evidence: accepted";
@@ -188,19 +187,10 @@ fn faults_by_hand() {
 #[test]
 fn sample_lists_are_proved_alike() {
     let mut tally = Tally::default();
-    for (left, _) in samples::ALL {
-        for (right, _) in samples::ALL {
-            let text = [left, right].map(samples::text).concat();
-            let (_, outcome) = compare(left, &text);
-            let guards = [left, right].map(|sample| sample != samples::ADDER);
-            let wanted = if guards[0] == guards[1] {
-                ACCEPTED
-            } else {
-                "6"
-            };
-            assert_eq!(outcome, wanted, "{left} and {right}");
-            tally.count(outcome);
-        }
+    for (about, text, alike) in samples::pairs() {
+        let (_, outcome) = compare(&about, &text);
+        assert_eq!(outcome, if alike { ACCEPTED } else { "6" }, "{about}");
+        tally.count(outcome);
     }
     let wanted = [ACCEPTED, "6"].map(String::from);
     tally.finish("pairs of sample lists", 9, &wanted);
@@ -211,9 +201,7 @@ fn sample_lists_are_proved_alike() {
 fn pairs_are_proved_alike() {
     let mut tally = Tally::default();
     for case in 0..PAIRS {
-        let mut random = Random::of_case(seed(), case);
-        let shape = rewrites::any_shape(&mut random);
-        let pair = Pair::any(&mut random, shape);
+        let (pair, _) = rewrites::small(case);
         tally.count(compare_pair(case, &pair));
     }
     let wanted = [ACCEPTED, "18"].map(String::from);
@@ -262,13 +250,8 @@ fn large_pairs_are_proved_alike() {
     let mut tally = Tally::default();
     for case in 0..LARGE_CASES {
         let mut random = Random::of_case(seed(), case);
-        let shape = Shape {
-            inputs: random.pick(&[4, 16, 64, 64]),
-            gates: [300, 600, 1_000, LARGEST.gates][case as usize % 4],
-            ..LARGEST
-        };
-        let left = rewrites::coincident(&mut random, shape);
-        let mut pair = rewrites::rewritten(&mut random, left);
+        let gates = [300, 600, 1_000, LARGEST.gates][case as usize % 4];
+        let mut pair = rewrites::large(&mut random, gates);
         tally.count(compare_pair(case, &pair));
         pair.complement_outputs(&mut random);
         tally.count(compare_pair(case, &pair));

@@ -31,7 +31,7 @@ pub struct Lent<T> {
     guards: [Vec<T>; 2],
 }
 
-impl<T: Copy + Default + PartialEq> Lent<T> {
+impl<T: Copy + PartialEq> Lent<T> {
     /// So many elements, by one of the functions above.
     pub fn new(
         random: &mut Random,
@@ -49,16 +49,13 @@ impl<T: Copy + Default + PartialEq> Lent<T> {
         &mut self.memory[GUARD..end]
     }
 
-    /// What the call must not have left: a guard that was written, or another element than zero from
-    /// this place on.
-    pub fn fault(&self, zeros_from: usize) -> Option<String> {
+    /// What the call left, unless it wrote a guard.
+    pub fn left(&self) -> Result<&[T], String> {
         let (before, lent) = self.memory.split_at(GUARD);
         let (lent, behind) = lent.split_at(lent.len() - GUARD);
         if [before, behind] != self.guards.each_ref().map(Vec::as_slice) {
-            return Some("a guard was written".into());
+            return Err("a guard was written".into());
         }
-        let zero = T::default();
-        let left = lent[zeros_from..].iter().position(|&left| left != zero)?;
-        Some(format!("{} is not zero", zeros_from + left))
+        Ok(lent)
     }
 }

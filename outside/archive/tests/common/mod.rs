@@ -6,7 +6,9 @@
 
 pub mod calls;
 pub mod expected;
+pub mod extensions;
 pub mod garbage;
+pub mod judge;
 pub mod list_texts;
 pub mod lists;
 pub mod pairs;
@@ -19,6 +21,7 @@ pub mod random;
 pub mod refutations;
 pub mod rewrites;
 pub mod samples;
+pub mod sizes;
 pub mod tally;
 pub mod texts;
 

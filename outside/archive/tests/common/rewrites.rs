@@ -4,7 +4,7 @@
 
 use super::lists::{literal_below, some_place, List, Shape, AND, LARGEST, XOR};
 use super::pairs;
-use super::random::Random;
+use super::random::{seed, Random};
 
 /// A pair of lists for the engine.
 pub struct Pair {
@@ -103,6 +103,24 @@ impl Pair {
             shown: Vec::new(),
         }
     }
+}
+
+/// The small pair of a test's case, and the numbers that the case goes on with.
+pub fn small(case: u64) -> (Pair, Random) {
+    let mut random = Random::of_case(seed(), case);
+    let shape = any_shape(&mut random);
+    (Pair::any(&mut random, shape), random)
+}
+
+/// A pair of so many left gates with 64 outputs, rewritten.
+pub fn large(random: &mut Random, gates: usize) -> Pair {
+    let shape = Shape {
+        inputs: random.pick(&[4, 16, 64, 64]),
+        gates,
+        ..LARGEST
+    };
+    let left = coincident(random, shape);
+    rewritten(random, left)
 }
 
 /// A shape for a pair, mostly small: all patterns of up to ten inputs are tried.

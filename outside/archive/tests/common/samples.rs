@@ -33,3 +33,14 @@ pub fn text(sample: &str) -> Vec<u8> {
     let file = folder.join(sample).with_extension("txt");
     fs::read(&file).unwrap_or_else(|error| panic!("{}: {error}", file.display()))
 }
+
+/// Each pair of samples: its names, its text, and whether both lists have the same forms. The guard
+/// and its renamed copy have; the adder has other inputs than they.
+pub fn pairs() -> impl Iterator<Item = (String, Vec<u8>, bool)> {
+    let names = || ALL.into_iter().map(|(sample, _)| sample);
+    let pairs = names().flat_map(move |left| names().map(move |right| [left, right]));
+    pairs.map(|pair| {
+        let [left, right] = pair.map(|sample| sample != ADDER);
+        (pair.join(" and "), pair.map(text).concat(), left == right)
+    })
+}
