@@ -17,7 +17,7 @@ ghost use Rattle.table.specs.Rows.{Holds};
 ghost use Rattle.table.specs.Buckets.{Indexed, Among};
 ghost use Rattle.checker.specs.Miters.{Lists};
 
-// Net 0 and the inputs represent themselves.
+// The table of net 0 and the inputs, which represent themselves.
 fn set_bases(work: &mut [u16], nets: usize, inputs: usize)
     requires { ⌜ Among (length (now work)) nets inputs ⌝ }
     ensures { λ _. ⌜ Indexed (now (work .exit)) nets (model.bases 0 (1 + inputs)) ⌝ }

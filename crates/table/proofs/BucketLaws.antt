@@ -14,7 +14,7 @@ use Rattle.fold_laws.specs.Table as model
 use Rattle.table.specs.Rows.{rowWidth, row, Holds}
 use Rattle.table.specs.Buckets.{bucketWidth, headAt, nextAt, mixed, bucketOf, bucketAt, latest, Indexed, Among}
 use Rattle.table.proofs.PlaceLaws.{stays-before, stays-behind}
-use Rattle.table.proofs.RowLaws.{entered, search-next, search-here, search-none}
+use Rattle.table.proofs.RowLaws.{entered, search-next, search-none}
 
 -- ---- a bucket
 
@@ -69,8 +69,8 @@ module _ (nets : ℕ) (t : List model.Entry) (h : ℕ) where
   unfolding latest
   latest-in zero z = absurd (omega arith)
   latest-in (suc n) z =
-      let m : suc n - 1 ≡ n = omega arith in
-      by-cond (λ (m : ℕ). 0 < m → bucketAt nets t (m - 1) ≡ h) (eqb (bucketAt nets t n) h) (λ e y. rw m (eqb-true (bucketAt nets t n) h e)) (λ e. latest-in n) z
+      let p : suc n - 1 ≡ n = omega arith in
+      by-cond (λ (m : ℕ). 0 < m → bucketAt nets t (m - 1) ≡ h) (eqb (bucketAt nets t n) h) (λ e y. rw p (eqb-true (bucketAt nets t n) h e)) (λ e. latest-in n) z
 
   -- entries behind do not matter
   latest-front : (s : List model.Entry) (n : ℕ) → n ≤ length t → latest nets (t ++ s) h n ≡ latest nets t h n
@@ -99,14 +99,6 @@ module _ (nets : ℕ) (t : List model.Entry) (k : Bool) (a b v : ℕ) where
 
   walk-from : (n found : ℕ) → n ≤ v → found ≡ model.find k a b t (v - n) n → Walk nets t k a b v (latest nets t h n) found
   walk-from n found l e = record { chained = latest-in nets t h n; first = e ∙ sym (passed n l) }
-
-  -- net u of the chain fits or not
-  module _ (u found : ℕ) (l : u < v) (w : Walk nets t k a b v (suc u) found) where
-    pub fits-here : model.fits k a b (model.at t u) ≡ true → u ≡ model.find k a b t (v - u) u
-    fits-here e = sym (search-here k a b t v u l e)
-
-    pub fits-not : model.fits k a b (model.at t u) ≡ false → found ≡ model.find k a b t (v - u) u
-    fits-not e = w .first ∙ sym (search-next k a b t v u l e)
 
   module _ (work : List ℕ) (x : Indexed work nets t) (n : length t ≡ v) (next : ℕ) where
     pub walk-begins : (g : ℕ) → g ≡ h → g < bucketWidth * nets → (getD work (headAt nets g) 0 ≤ v → next ≡ getD work (headAt nets g) 0)

@@ -1,6 +1,6 @@
-// The search for the first net with a kind and key, by hashing: a net is in the bucket of its kind and key, and the nets of a bucket are a
-// chain from the latest down. A number of a chain is one more than a net, and 0 where the chain ends. What is asked is room; a number that is
-// too high for a chain, which no index has, ends it.
+// The search for the first net with a kind and key, by hashing: each net is in the bucket of its kind and key, and the nets of a bucket are a
+// chain from the latest down. What is stored of a chain is one more than a net, and 0 at its end. Callers see to room alone: a number that no
+// chain has at its place ends a walk, so that the search ends whatever the working numbers hold.
 use crate::links::LINKS;
 use crate::rows::Entry;
 use crate::rows::ROW;
@@ -21,8 +21,8 @@ const BUCKETS: usize = 4;
 // The number of a row that says where the net's chain goes on.
 const NEXT: usize = 5;
 
-// The bucket of a kind and key. The factors are to 2³² as 1/ρ, 1/ρ² and 1/φ² to 1 (plastic number, golden ratio), so that keys of consecutive
-// nets lie far apart.
+// The bucket of a kind and key. The factors are about 2³² × 1/ρ, 1/ρ² and 1/φ² (plastic number, golden ratio), so that keys that rise in steps,
+// as those of consecutive gates do, lie apart. The scaling is by a multiplication, since a remainder by the count is slow.
 fn bucket(nets: usize, kind: u16, a: u16, b: u16) -> usize
     requires { ⌜ (0 < nets) × (nets ≤ highestVariable + 1) ⌝ }
     ensures { λ r. ⌜ (r ≡ bucketOf nets kind a b) × (r < bucketWidth * nets) ⌝ }
@@ -62,7 +62,7 @@ pub fn empty(work: &mut [u16], nets: usize)
     }
 }
 
-// The least net below v with this kind and key, or v: the last on the chain that fits.
+// The least net below v with this kind and key, or v. It is the last on the chain that fits; that keys are unique is not used.
 pub fn find(work: &[u16], nets: usize, v: usize, kind: u16, a: u16, b: u16) -> usize
     requires { ⌜ Among (length (now work)) nets v ⌝ }
     ensures { λ r. ⌜ ((t : List model.Entry) (k : Bool) → Indexed (now (work .entry)) nets t → length t ≡ v → kind ≡ model.kindOf k → r ≡ model.find k a b t v 0) ⌝ }
@@ -80,7 +80,7 @@ pub fn find(work: &[u16], nets: usize, v: usize, kind: u16, a: u16, b: u16) -> u
     found
 }
 
-// The entry of net v, behind those of the nets before it, and its place in the index.
+// The entry of net v, behind those of the nets before it, and the net at the head of its chain.
 pub fn insert(work: &mut [u16], nets: usize, v: usize, e: Entry)
     requires { ⌜ Among (length (now work)) nets v ⌝ }
     ensures { λ _. ⌜ ((t : List model.Entry) → Indexed (now (work .entry)) nets t → length t ≡ v → Indexed (now (work .exit)) nets (t ++ (entryOf e ∷ []))) ⌝ }

@@ -9,7 +9,8 @@ use denote.Ref.{now}
 use lib.ListN.{length}
 use Rattle.fold_laws.specs.Table as model
 use Rattle.table.specs.Buckets.{Indexed}
-use Rattle.table.proofs.BucketLaws.{Walk, fits-here, fits-not, walk-begins, walk-on}
+use Rattle.table.proofs.RowLaws.{search-next, search-here}
+use Rattle.table.proofs.BucketLaws.{Walk, walk-begins, walk-on}
 use borrow.Author.Needs.{needs}
 use Rattle.table.proofs.buckets.find.Statement.{statement}
 use Rattle.table.proofs.buckets.find.Tie as tie
@@ -79,8 +80,8 @@ loop-again c =
           let w : Walk (a .nets) t k (a .a) (a .b) (a .v) (suc u) (l .found) = rw m (l .inv .1 t k x n e) in
           walk-on (a .nets) t k (a .a) (a .b) (a .v) (now (a .work)) x n (c .at-most2 .result) u (l .found) (c .before .if1 .found) (omega arith) w
           (⊎-elim
-          (λ q. q .1 ∙ fits-here (a .nets) t k (a .a) (a .b) (a .v) u (l .found) (omega arith) w (sym (f t k (x .rows) (omega arith) e) ∙ q .0 .taken))
-          (λ q. q .1 ∙ fits-not (a .nets) t k (a .a) (a .b) (a .v) u (l .found) (omega arith) w (sym (f t k (x .rows) (omega arith) e) ∙ q .0 .left))
+          (λ q. q .1 ∙ sym (search-here k (a .a) (a .b) t (a .v) u (omega arith) (sym (f t k (x .rows) (omega arith) e) ∙ q .0 .taken)))
+          (λ q. q .1 ∙ w .first ∙ sym (search-next k (a .a) (a .b) t (a .v) u (omega arith) (sym (f t k (x .rows) (omega arith) e) ∙ q .0 .left)))
           (c .before .if1 .came))
           (c .at-most2 .ensures .1),
     )
