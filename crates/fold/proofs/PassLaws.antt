@@ -22,13 +22,13 @@ use Rattle.netlist.specs.declared.again.Gate as again
 use Rattle.netlist.specs.Again.{gateMeant, noGate}
 use Rattle.checker.specs.Miters.{zGate}
 use Rattle.checker.proofs.MiterLaws.{z-of}
-use Rattle.table.specs.Rows.{Holds}
+use Rattle.table.specs.Buckets.{Indexed}
 
 -- ---- net 0 and the inputs
 
-pub holds-none : (work : List ℕ) → Holds work (model.bases 0 0)
+pub bases-none : model.bases 0 0 ≡ []
 unfolding model.bases
-holds-none work = record { room = omega arith; number = λ u i h. absurd (omega arith) }
+bases-none = refl
 
 bases-next : (j k : ℕ) → model.bases j (suc k) ≡ model.bases j k ++ (model.baseEntry (j + k) ∷ [])
 unfolding model.bases
@@ -62,17 +62,17 @@ module _ (i : ℕ) (gs : List Gate) where
   after-all k h = rw (take-all k gs h)
 
 -- gate k entered behind the nets before it
-pub gate-entered : (a b : Netlist) → pairs.Pair a b → (k v : ℕ) (g : Gate) (e : model.Entry) (work more : List ℕ) → k < length (gatesOf a b) → v ≡ 1 + a .inputs + k
-    → g ≡ getD (gatesOf a b) k noGate → Holds work (after (a .inputs) (gatesOf a b) k)
-    → ((t : List model.Entry) → Holds work t → length t ≡ v → readsBelow v g ≡ true → e ≡ model.entry t g)
-    → ((t : List model.Entry) → Holds work t → length t ≡ v → Holds more (t ++ (e ∷ [])))
-    → Holds more (after (a .inputs) (gatesOf a b) (k + 1))
-gate-entered a b ab k v g e work more h n is held make put =
+pub gate-entered : (a b : Netlist) → pairs.Pair a b → (nets k v : ℕ) (g : Gate) (e : model.Entry) (work more : List ℕ) → k < length (gatesOf a b)
+    → v ≡ 1 + a .inputs + k → g ≡ getD (gatesOf a b) k noGate → Indexed work nets (after (a .inputs) (gatesOf a b) k)
+    → ((t : List model.Entry) → Indexed work nets t → length t ≡ v → readsBelow v g ≡ true → e ≡ model.entry t g)
+    → ((t : List model.Entry) → Indexed work nets t → length t ≡ v → Indexed more nets (t ++ (e ∷ [])))
+    → Indexed more nets (after (a .inputs) (gatesOf a b) (k + 1))
+gate-entered a b ab nets k v g e work more h n is held make put =
     let t : List model.Entry = after (a .inputs) (gatesOf a b) k in
     let long : length t ≡ v = after-length (a .inputs) (gatesOf a b) k (omega arith) ∙ sym n in
     let low : readsBelow v g ≡ true = rw (n, is) (ordered-at (1 + a .inputs) (gatesOf a b) k noGate (ordered-gates a b ab) h) in
     rw (after-more (a .inputs) (gatesOf a b) k noGate h, ← is)
-    (subst (λ (x : model.Entry). Holds more (t ++ (x ∷ []))) (make t held long low) (put t held long))
+    (subst (λ (x : model.Entry). Indexed more nets (t ++ (x ∷ []))) (make t held long low) (put t held long))
 
 -- ---- outputs
 

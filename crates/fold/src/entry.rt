@@ -5,24 +5,23 @@ use crate::made::xor_of;
 use clause::Literal;
 use frame::Op;
 use netlist::again::Gate;
+use table::buckets::find;
 use table::rows::AND;
 use table::rows::Entry;
 use table::rows::XOR;
 use table::rows::core_of;
-use table::rows::find;
 use table::rows::representative;
 ghost use mathlib.Core.Path.{_≡_};
 ghost use mathlib.Core.Bool.{Bool, true};
 ghost use mathlib.Core.List.{List};
-ghost use Prim.Native.Nat.{_*_, _<_, _≤_};
 ghost use lib.ListN.{length};
-ghost use Rattle.model.specs.Limits.{highestVariable};
 ghost use Rattle.model.specs.Nets.{readsBelow};
 ghost use Rattle.netlist.specs.Again.{gateMeant};
 ghost use Rattle.fold_laws.specs.Cases.Made.{key};
 ghost use Rattle.fold_laws.specs.Signs as signs;
 ghost use Rattle.fold_laws.specs.Table as model;
-ghost use Rattle.table.specs.Rows.{rowWidth, entryOf, Holds};
+ghost use Rattle.table.specs.Rows.{entryOf};
+ghost use Rattle.table.specs.Buckets.{Indexed, Among};
 ghost use Rattle.fold.specs.Entries.{madeOf};
 
 // The literal, complemented where the sign is set.
@@ -36,12 +35,12 @@ fn signed(sign: bool, l: u16) -> u16
 }
 
 // The entry of net v of this key, where its literal of this sign is the AND or XOR of the key: of the first net that has it, or its own.
-fn found(work: &[u16], v: usize, kind: u16, sign: bool, a: u16, b: u16) -> Entry
-    requires { ⌜ (rowWidth * v ≤ length (now work)) × (v ≤ highestVariable) ⌝ }
-    ensures { λ r. ⌜ ((t : List model.Entry) (k : Bool) → Holds (now (work .entry)) t → length t ≡ v → kind ≡ model.kindOf k
+fn found(work: &[u16], nets: usize, v: usize, kind: u16, sign: bool, a: u16, b: u16) -> Entry
+    requires { ⌜ Among (length (now work)) nets v ⌝ }
+    ensures { λ r. ⌜ ((t : List model.Entry) (k : Bool) → Indexed (now (work .entry)) nets t → length t ≡ v → kind ≡ model.kindOf k
         → entryOf r ≡ model.enter t k sign (key a b)) ⌝ }
 {
-    let u = find(work, v, kind, a, b);
+    let u = find(work, nets, v, kind, a, b);
     if u < v {
         return Entry {
             rep: signed(sign, core_of(work, u)),
@@ -62,9 +61,9 @@ fn found(work: &[u16], v: usize, kind: u16, sign: bool, a: u16, b: u16) -> Entry
 }
 
 // The entry of net v, where its literal of this sign is what was made.
-fn entered(work: &[u16], v: usize, kind: u16, sign: bool, made: Made) -> Entry
-    requires { ⌜ (rowWidth * v ≤ length (now work)) × (v ≤ highestVariable) ⌝ }
-    ensures { λ r. ⌜ ((t : List model.Entry) (k : Bool) → Holds (now (work .entry)) t → length t ≡ v → kind ≡ model.kindOf k → entryOf r ≡ model.enter t k sign (madeOf made)) ⌝ }
+fn entered(work: &[u16], nets: usize, v: usize, kind: u16, sign: bool, made: Made) -> Entry
+    requires { ⌜ Among (length (now work)) nets v ⌝ }
+    ensures { λ r. ⌜ ((t : List model.Entry) (k : Bool) → Indexed (now (work .entry)) nets t → length t ≡ v → kind ≡ model.kindOf k → entryOf r ≡ model.enter t k sign (madeOf made)) ⌝ }
 {
     match made {
         Made::Is(r) => Entry {
@@ -74,20 +73,20 @@ fn entered(work: &[u16], v: usize, kind: u16, sign: bool, made: Made) -> Entry
             kb: 0,
             core: 0,
         },
-        Made::Key(a, b) => found(work, v, kind, sign, a, b),
+        Made::Key(a, b) => found(work, nets, v, kind, sign, a, b),
     }
 }
 
 // The entry of net v as this gate.
-pub fn entry(work: &[u16], v: usize, gate: Gate) -> Entry
-    requires { ⌜ (rowWidth * v ≤ length (now work)) × (v ≤ highestVariable) ⌝ }
-    ensures { λ r. ⌜ ((t : List model.Entry) → Holds (now (work .entry)) t → length t ≡ v → readsBelow v (gateMeant gate) ≡ true → entryOf r ≡ model.entry t (gateMeant gate)) ⌝ }
+pub fn entry(work: &[u16], nets: usize, v: usize, gate: Gate) -> Entry
+    requires { ⌜ Among (length (now work)) nets v ⌝ }
+    ensures { λ r. ⌜ ((t : List model.Entry) → Indexed (now (work .entry)) nets t → length t ≡ v → readsBelow v (gateMeant gate) ≡ true → entryOf r ≡ model.entry t (gateMeant gate)) ⌝ }
 {
     let p = representative(work, gate.x);
     let q = representative(work, gate.y);
     let op = gate.op;
     match op {
-        Op::And => entered(work, v, AND, false, and_of(p, q)),
-        Op::Xor => entered(work, v, XOR, p % 2 != q % 2, xor_of(p, q)),
+        Op::And => entered(work, nets, v, AND, false, and_of(p, q)),
+        Op::Xor => entered(work, nets, v, XOR, p % 2 != q % 2, xor_of(p, q)),
     }
 }

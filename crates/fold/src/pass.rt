@@ -3,27 +3,31 @@ use crate::entry::entry;
 use checker::both::gate_of;
 use checker::both::outputs_of;
 use netlist::Pair;
+use table::buckets::empty;
+use table::buckets::insert;
 use table::rows::Entry;
-use table::rows::enter;
 use table::rows::representative;
 ghost use mathlib.Core.Path.{_≡_};
 ghost use Prim.Native.Nat.{_+_, _*_, _≤_};
 ghost use lib.ListN.{length};
-ghost use Rattle.model.specs.Limits.{mostInputs};
+ghost use Rattle.model.specs.Limits.{numbersPerNet};
 ghost use Rattle.fold_laws.specs.Table as model;
 ghost use Rattle.fold_laws.specs.Engine.{bothTable, byReps};
-ghost use Rattle.table.specs.Rows.{rowWidth, Holds};
+ghost use Rattle.table.specs.Rows.{Holds};
+ghost use Rattle.table.specs.Buckets.{Indexed, Among};
 ghost use Rattle.checker.specs.Miters.{Lists};
 
-// Net 0 and the inputs represent themselves.
-fn set_bases(work: &mut [u16], inputs: usize)
-    requires { ⌜ (rowWidth * (1 + inputs) ≤ length (now work)) × (inputs ≤ mostInputs) ⌝ }
-    ensures { λ _. ⌜ Holds (now (work .exit)) (model.bases 0 (1 + inputs)) ⌝ }
+// The table of net 0 and the inputs, which represent themselves.
+fn set_bases(work: &mut [u16], nets: usize, inputs: usize)
+    requires { ⌜ Among (length (now work)) nets inputs ⌝ }
+    ensures { λ _. ⌜ Indexed (now (work .exit)) nets (model.bases 0 (1 + inputs)) ⌝ }
 {
+    empty(work, nets);
     let mut k: usize = 0;
     while k < 1 + inputs {
-        enter(
+        insert(
             work,
+            nets,
             k,
             Entry {
                 rep: 2 * (k as u16),
@@ -39,17 +43,19 @@ fn set_bases(work: &mut [u16], inputs: usize)
 
 // The table of both lists.
 pub fn fold(text: &[u8], pair: Pair, work: &mut [u16])
-    requires { ⌜ Lists (now text) pair × (rowWidth * (1 + pair .inputs + pair .left + pair .right) ≤ length (now work)) ⌝ }
+    requires { ⌜ Lists (now text) pair × (numbersPerNet * (1 + pair .inputs + pair .left + pair .right) ≤ length (now work)) ⌝ }
     ensures { λ _. ⌜ ((w : Lists (now (text .entry)) pair) → Holds (now (work .exit)) (bothTable (w .left) (w .right))) ⌝ }
 {
     let first = 1 + pair.inputs;
     let gates = pair.left + pair.right;
-    set_bases(work, pair.inputs);
+    let nets = first + gates;
+    set_bases(work, nets, pair.inputs);
     let mut k: usize = 0;
     while k < gates {
+        let v = first + k;
         let gate = gate_of(text, pair, k);
-        let made = entry(work, first + k, gate);
-        enter(work, first + k, made);
+        let made = entry(work, nets, v, gate);
+        insert(work, nets, v, made);
         k += 1;
     }
 }

@@ -2,3 +2,4 @@
 pub mod PlaceLaws
 pub mod RowLaws
 pub mod LinkLaws
+pub mod BucketLaws

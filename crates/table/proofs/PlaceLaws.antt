@@ -10,6 +10,10 @@ pub stays-before : (l : List ℕ) (p : ℕ) (xs : List ℕ) (j : ℕ) → j < p 
 stays-before l p [] j h = refl
 stays-before l p (x ∷ xs) j h = stays-before (set l p x) (suc p) xs j (omega arith) ∙ getD-set-other l p j x 0 (λ e. omega arith)
 
+pub stays-behind : (l : List ℕ) (p : ℕ) (xs : List ℕ) (j : ℕ) → p + length xs ≤ j → getD (sets l p xs) j 0 ≡ getD l j 0
+stays-behind l p [] j h = refl
+stays-behind l p (x ∷ xs) j h = stays-behind (set l p x) (suc p) xs j (omega arith) ∙ getD-set-other l p j x 0 (λ e. omega arith)
+
 pub stored-at : (l : List ℕ) (p : ℕ) (xs : List ℕ) (i : ℕ) → p + length xs ≤ length l → i < length xs → getD (sets l p xs) (p + i) 0 ≡ getD xs i 0
 stored-at l p [] i r h = absurd (omega arith)
 stored-at l p (x ∷ xs) zero r h =

@@ -84,16 +84,13 @@ module _ {work : List ℕ} {t : List model.Entry} (h : Holds work t) {u : ℕ} (
 -- ---- the search, as far as net u
 
 module _ (k : Bool) (a b : ℕ) (t : List model.Entry) (v u : ℕ) where
-  pub search-next : u < v → model.fits k a b (model.at t u) ≡ false → model.find k a b t (v - u) u ≡ model.find k a b t (v - (u + 1)) (u + 1)
+  pub search-next : u < v → model.fits k a b (model.at t u) ≡ false → model.find k a b t (v - u) u ≡ model.find k a b t (v - suc u) (suc u)
   unfolding model.find
-  search-next h e =
-      let m : v - u ≡ suc (v - (u + 1)) = omega arith in
-      let s : u + 1 ≡ suc u = omega arith in
-      rw (m, e, s)
+  search-next h e = let m : v - u ≡ suc (v - suc u) = omega arith in rw (m, e)
 
   pub search-here : u < v → model.fits k a b (model.at t u) ≡ true → model.find k a b t (v - u) u ≡ u
   unfolding model.find
-  search-here h e = let m : v - u ≡ suc (v - (u + 1)) = omega arith in rw (m, e)
+  search-here h e = let m : v - u ≡ suc (v - suc u) = omega arith in rw (m, e)
 
   pub search-none : v ≤ u → model.find k a b t (v - u) u ≡ u
   unfolding model.find

@@ -1,13 +1,15 @@
-// The first pass's table, a row for each net: representative, kind, key, core, and three numbers that are free.
+// The first pass's table, a row for each net: representative, kind, key, core, then the number by which `buckets` chains nets, and two that are
+// free.
 use clause::Literal;
 ghost use mathlib.Core.Path.{_≡_};
 ghost use mathlib.Core.Bool.{Bool};
-ghost use mathlib.Core.List.{List, [], _∷_, _++_};
+ghost use mathlib.Core.List.{List};
 ghost use Prim.Native.Nat.{_+_, _*_, _<_, _≤_};
 ghost use lib.ListN.{length};
+ghost use lib.Seq.{sets};
 ghost use Rattle.model.specs.Nets.{netOf};
 ghost use Rattle.fold_laws.specs.Table as model;
-ghost use Rattle.table.specs.Rows.{rowWidth, entryOf, Holds};
+ghost use Rattle.table.specs.Rows.{rowWidth, row, entryOf, Holds};
 
 pub const ROW: usize = 8;
 
@@ -24,10 +26,10 @@ pub struct Entry {
     pub core: u16,
 }
 
-// The entry of net v, behind those of the nets before it.
+// The entry of net v: its row, and nothing else, is stored.
 pub fn enter(work: &mut [u16], v: usize, e: Entry)
     requires { ⌜ rowWidth * v + rowWidth ≤ length (now work) ⌝ }
-    ensures { λ _. ⌜ ((t : List model.Entry) → Holds (now (work .entry)) t → length t ≡ v → Holds (now (work .exit)) (t ++ (entryOf e ∷ []))) ⌝ }
+    ensures { λ _. ⌜ now (work .exit) ≡ sets (now (work .entry)) (rowWidth * v) (row (entryOf e)) ⌝ }
 {
     let at = ROW * v;
     work[at] = e.rep;
@@ -61,7 +63,7 @@ pub fn core_of(work: &[u16], u: usize) -> u16
 }
 
 // Whether net u has this kind and key.
-fn fits(work: &[u16], u: usize, kind: u16, a: u16, b: u16) -> bool
+pub fn fits(work: &[u16], u: usize, kind: u16, a: u16, b: u16) -> bool
     requires { ⌜ rowWidth * u + rowWidth ≤ length (now work) ⌝ }
     ensures { λ r. ⌜ ((t : List model.Entry) (k : Bool) → Holds (now (work .entry)) t → u < length t → kind ≡ model.kindOf k → r ≡ model.fits k a b (model.at t u)) ⌝ }
 {
@@ -73,19 +75,4 @@ fn fits(work: &[u16], u: usize, kind: u16, a: u16, b: u16) -> bool
         return false;
     }
     work[at + 1] == kind
-}
-
-// The least net below v with this kind and key, or v.
-pub fn find(work: &[u16], v: usize, kind: u16, a: u16, b: u16) -> usize
-    requires { ⌜ rowWidth * v ≤ length (now work) ⌝ }
-    ensures { λ r. ⌜ ((t : List model.Entry) (k : Bool) → Holds (now (work .entry)) t → length t ≡ v → kind ≡ model.kindOf k → r ≡ model.find k a b t v 0) ⌝ }
-{
-    let mut u: usize = 0;
-    while u < v {
-        if fits(work, u, kind, a, b) {
-            return u;
-        }
-        u += 1;
-    }
-    v
 }

@@ -45,7 +45,7 @@ returns c t h n low =
     let y = c .before .before .before .before .representative2 in
     c .entered .ensures t false h n refl
     ∙ ap (model.enter t false false) (c .before .and-of .ensures)
-    ∙ is-entry t (a .gate) (a .v) _ _ n low (x .ensures t h) (y .ensures t h) _ (c .before .before .enum-told .given .1)
+    ∙ is-entry t (a .gate) (a .v) _ _ n low (x .ensures t (h .rows)) (y .ensures t (h .rows)) _ (c .before .before .enum-told .given .1)
 
 returns-2 : tie.Need-returns-2
 returns-2 c t h n low =
@@ -54,7 +54,7 @@ returns-2 c t h n low =
     let y = c .before .before .before .before .representative2 in
     c .entered2 .ensures t true h n refl
     ∙ ap (model.enter t true _) (c .before .xor-of .ensures)
-    ∙ rw (combined (x .result) (y .result)) (is-entry t (a .gate) (a .v) _ _ n low (x .ensures t h) (y .ensures t h) _ (c .before .before .enum-told2 .given .1))
+    ∙ rw (combined (x .result) (y .result)) (is-entry t (a .gate) (a .v) _ _ n low (x .ensures t (h .rows)) (y .ensures t (h .rows)) _ (c .before .before .enum-told2 .given .1))
 
 pub entry-spec : {M : Type 1} → statement M
 entry-spec =

@@ -10,7 +10,7 @@ use Rattle.fold.proofs.entry.found.Reads as reads
 use Rattle.fold.proofs.entry.found.Lts as lts
 use Rattle.fold.proofs.entry.signed.Reads as signed-reads
 use Rattle.table.proofs.rows.core_of.Reads as core-of-reads
-use Rattle.table.proofs.rows.find.Reads as find-reads
+use Rattle.table.proofs.buckets.find.Reads as find-reads
 
 find-requires : tie.Need-find-requires
 find-requires c κs = search needs
@@ -24,7 +24,7 @@ signed-requires c κs = search needs
 returns : tie.Need-returns
 returns c t k h n e =
     let a = c .before .before .before .before .before .args in
-    rw e (found-old t k (a .sign) (a .a) (a .b) (a .v) n _ _ (c .before .before .before .find .ensures t k h n e) (c .before .before .if1 .taken) (c .signed .ensures ∙ ap (signed (a .sign)) (c .before .core-of .ensures t h (omega arith))))
+    rw e (found-old t k (a .sign) (a .a) (a .b) (a .v) n _ _ (c .before .before .before .find .ensures t k h n e) (c .before .before .if1 .taken) (c .signed .ensures ∙ ap (signed (a .sign)) (c .before .core-of .ensures t (h .rows) (omega arith))))
 
 cast-own : tie.Need-cast-own
 cast-own c = search needs

@@ -6,6 +6,7 @@ use denote.Ref.{now}
 use lib.ListN.{length}
 use Rattle.model.specs.Miter.{gatesOf}
 use Rattle.table.specs.Rows.{entryOf, Holds}
+use Rattle.table.specs.Buckets.{Indexed}
 use Rattle.checker.specs.Miters.{Lists}
 use Rattle.laws.specs.MiterOrder.{length-gates}
 use Rattle.fold_laws.specs.Table as model
@@ -20,20 +21,23 @@ use Rattle.fold.proofs.pass.fold.Lts as lts
 use Rattle.checker.proofs.both.gate_of.Reads as gate-of-reads
 use Rattle.fold.proofs.entry.entry.Reads as entry-reads
 use Rattle.fold.proofs.pass.set_bases.Reads as set-bases-reads
-use Rattle.table.proofs.rows.enter.Reads as enter-reads
+use Rattle.table.proofs.buckets.insert.Reads as insert-reads
 
 abbrev Inv-loop : tie.InvT-loop
-Inv-loop text pair work₀ first gates k₀ work k =
-    (k ≤ gates) × (length work ≡ length work₀) × ((w : Lists text pair) → Holds work (after (w .left .inputs) (gatesOf (w .left) (w .right)) k))
+Inv-loop text pair work₀ first gates nets k₀ work k =
+    (k ≤ gates) × (length work ≡ length work₀) × ((w : Lists text pair) → Indexed work nets (after (w .left .inputs) (gatesOf (w .left) (w .right)) k))
 
 abbrev μ-loop : tie.MeasureT-loop
-μ-loop text pair work₀ first gates k₀ work k = gates - k
+μ-loop text pair work₀ first gates nets k₀ work k = gates - k
 
 add-first : tie.Need-add-first Inv-loop μ-loop
 add-first c = search needs
 
 add-gates : tie.Need-add-gates Inv-loop μ-loop
 add-gates c = search needs
+
+add-nets : tie.Need-add-nets Inv-loop μ-loop
+add-nets c = search needs
 
 set-bases-requires : tie.Need-set-bases-requires Inv-loop μ-loop
 set-bases-requires c κs = search needs
@@ -43,24 +47,30 @@ loop-holds c = (
   omega arith,
   refl,
   λ w.
-      subst (Holds (c .before .before .set-bases .last .0)) (ap (λ (i : ℕ). model.bases 0 (1 + i)) (sym (w .inputs)) ∙ sym (after-none (w .left .inputs) (gatesOf (w .left) (w .right))))
+      subst (Indexed (c .before .before .set-bases .last .0) _) (ap (λ (i : ℕ). model.bases 0 (1 + i)) (sym (w .inputs)) ∙ sym (after-none (w .left .inputs) (gatesOf (w .left) (w .right))))
       (c .before .before .set-bases .ensures),
 )
+
+add-v : tie.Need-add-v Inv-loop μ-loop
+add-v c = search needs
 
 gate-of-requires : tie.Need-gate-of-requires Inv-loop μ-loop
 gate-of-requires c κs = search needs
 
-add-entry : tie.Need-add-entry Inv-loop μ-loop
-add-entry c = search needs
-
 entry-requires : tie.Need-entry-requires Inv-loop μ-loop
 entry-requires c κs = search needs
 
-add-enter : tie.Need-add-enter Inv-loop μ-loop
-add-enter c = search needs
-
-enter-requires : tie.Need-enter-requires Inv-loop μ-loop
-enter-requires c κs = search needs
+insert-requires : tie.Need-insert-requires Inv-loop μ-loop
+insert-requires c κs =
+    let s = c .before .before .before .before .before .before .before .before .before .before .before .before .before .before in
+    let l = c .before .before .before .before .before .loop in
+    let w = s .pre .0 in
+    let same : length (c .before .before .before .before .before .before .before .before .set-bases .last .0) ≡ length (now (s .args .work)) = search needs in
+    record {
+      inside = omega arith;
+      few = omega (arith, few-left w, few-right w, w .inputs, w .alike .left .inputs);
+      room = omega (arith, s .pre .1, l .inv .1, same);
+    }
 
 add-k : tie.Need-add-k Inv-loop μ-loop
 add-k c = let w = c .before .before .before .before .before .before .before .before .before .before .before .before .before .before .before .before .before .pre .0 in omega (arith, few-left w, few-right w)
@@ -73,11 +83,11 @@ loop-again c =
     let l = c .before .before .before .before .before .before .before .before .loop in
     let g = c .before .before .before .before .before .before .gate-of in
     let m = c .before .before .before .before .entry in
-    let e = c .before .before .enter in (
+    let e = c .before .before .insert in (
       omega arith,
       (let s : length (e .last .0) ≡ length (l .work) = search needs in s) ∙ l .inv .1,
       λ w.
-          gate-entered (w .left) (w .right) (w .alike) (l .k) _ (gateMeant (g .result)) (entryOf (m .result)) (l .work) (e .last .0)
+          gate-entered (w .left) (w .right) (w .alike) _ (l .k) _ (gateMeant (g .result)) (entryOf (m .result)) (l .work) (e .last .0)
           (omega (arith, length-gates (w .left) (w .right) (w .alike), w .left-gates, w .right-gates)) (omega (arith, w .inputs)) (g .ensures w) (l .inv .2 w) (m .ensures) (e .ensures),
     )
 
@@ -91,7 +101,7 @@ returns c w =
     let l = c .before .loop in
     subst (Holds (l .work))
     (after-all (w .left .inputs) (gatesOf (w .left) (w .right)) (l .k) (omega (arith, length-gates (w .left) (w .right) (w .alike), w .left-gates, w .right-gates)))
-    (l .inv .2 w)
+    (l .inv .2 w .rows)
 
 pub fold-spec : {M : Type 1} → statement M
 fold-spec =
@@ -101,13 +111,13 @@ fold-spec =
     μ-loop
     add-first
     add-gates
+    add-nets
     set-bases-requires
     loop-holds
+    add-v
     gate-of-requires
-    add-entry
     entry-requires
-    add-enter
-    enter-requires
+    insert-requires
     add-k
     loop-less
     loop-again

@@ -1,12 +1,10 @@
--- Five numbers stored in turn are a row put behind the others (`entered`).
-use Prim.Native.Nat.{ℕ, _*_}
-use mathlib.Core.Path.{sym, subst}
-use mathlib.Core.List.{List, [], _∷_, _++_}
+-- Five numbers stored in turn are a row (`row-stored`).
+use Prim.Native.Nat.{_*_}
 use native.Mathlib.Omega.{arith}
 use denote.Ref.{now}
 use lib.ListN.{length-set}
-use Rattle.table.specs.Rows.{rowWidth, entryOf, Holds}
-use Rattle.table.proofs.RowLaws.{row-stored, entered}
+use Rattle.table.specs.Rows.{rowWidth}
+use Rattle.table.proofs.RowLaws.{row-stored}
 use borrow.Author.Needs.{needs}
 use Rattle.table.proofs.rows.enter.Statement.{statement}
 use Rattle.table.proofs.rows.enter.Tie as tie
@@ -65,9 +63,7 @@ returns : tie.Need-returns
 returns c =
     let a = c .args in
     let e = a .e in
-    λ t h n.
-    subst (λ (w : List ℕ). Holds w (t ++ (entryOf e ∷ []))) (sym (row-stored (now (a .work)) (rowWidth * a .v) (e .rep) (e .kind) (e .ka) (e .kb) (e .core)))
-    (entered (now (a .work)) t (entryOf e) (a .v) (c .pre) h n)
+    row-stored (now (a .work)) (rowWidth * a .v) (e .rep) (e .kind) (e .ka) (e .kb) (e .core)
 
 pub enter-spec : {M : Type 1} → statement M
 enter-spec =
