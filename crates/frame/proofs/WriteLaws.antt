@@ -28,7 +28,7 @@ use Rattle.frame.specs.Frames.{gateKind, extendKind, report, frameOf, Sp
 
 -- ---- stores
 
-sets-append : (l : List ℕ) (i : ℕ) (xs ys : List ℕ) → sets l i (xs ++ ys) ≡ sets (sets l i xs) (i + length xs) ys
+pub sets-append : (l : List ℕ) (i : ℕ) (xs ys : List ℕ) → sets l i (xs ++ ys) ≡ sets (sets l i xs) (i + length xs) ys
 sets-append l i [] ys = let e : i + 0 ≡ i = omega arith in rw e
 sets-append l i (x ∷ xs) ys = let e : i + suc (length xs) ≡ suc i + length xs = omega arith in rw e (sets-append (set l i x) (suc i) xs ys)
 
@@ -181,7 +181,7 @@ module _ (f : Frame) (room : ℕ) where
 
 -- ---- a report's line, in a buffer of just its length
 
-report-length : (refusal line steps clauses : ℕ) → length (lineOf (report refusal line steps clauses)) ≡ 19
+pub report-length : (refusal line steps clauses : ℕ) → length (lineOf (report refusal line steps clauses)) ≡ 19
 unfolding widths total
 report-length refusal line steps clauses = line-length (report refusal line steps clauses) refl
 

@@ -1,3 +1,6 @@
+-- What was read lies within the buffer.
+use mathlib.Core.Path.{sym}
+use lib.Seq.{length-take-le}
 use borrow.Author.Needs.{needs}
 use Rattle.cec_eval.proofs.main.Statement.{statement}
 use Rattle.cec_eval.proofs.main.Tie as tie
@@ -9,75 +12,59 @@ use Rattle.io.proofs.write_all.Reads as write-all-reads
 use Rattle.streams.proofs.read_stream.Reads as read-stream-reads
 use Rattle.streams.proofs.room.Reads as room-reads
 
--- src/main.rt:35:34
 argument-requires : tie.Need-argument-requires
 argument-requires c κs = search needs
 
--- src/main.rt:35:23
 enum-known-pattern : tie.Need-enum-known-pattern
 enum-known-pattern c = search needs
 
--- src/main.rt:38:13
 enum-told : tie.Need-enum-told
 enum-told c = search needs
 
--- src/main.rt:38:13
 slice-aggregate-write-all : tie.Need-slice-aggregate-write-all
 slice-aggregate-write-all c = search needs
 
--- src/main.rt:36:9
 write-all-requires : tie.Need-write-all-requires
 write-all-requires c κs = search needs
 
--- src/main.rt:40:9
 returns : tie.Need-returns
 returns c = search needs
 
--- src/main.rt:42:22
 room-requires : tie.Need-room-requires
 room-requires c κs = search needs
 
--- src/main.rt:43:39
 slice-aggregate-read-stream : tie.Need-slice-aggregate-read-stream
 slice-aggregate-read-stream c = search needs
 
--- src/main.rt:43:27
 read-stream-requires : tie.Need-read-stream-requires
 read-stream-requires c κs = search needs
 
--- src/main.rt:43:22
 enum-known-n : tie.Need-enum-known-n
 enum-known-n c = search needs
 
--- src/main.rt:46:13
 enum-told-2 : tie.Need-enum-told-2
 enum-told-2 c = search needs
 
--- src/main.rt:46:13
 slice-aggregate-write-all-2 : tie.Need-slice-aggregate-write-all-2
 slice-aggregate-write-all-2 c = search needs
 
--- src/main.rt:44:9
 write-all-requires-2 : tie.Need-write-all-requires-2
 write-all-requires-2 c κs = search needs
 
--- src/main.rt:48:9
 returns-2 : tie.Need-returns-2
 returns-2 c = search needs
 
--- src/main.rt:50:9
 array-share-prefix-stream : tie.Need-array-share-prefix-stream
-array-share-prefix-stream c = ?
+array-share-prefix-stream c = rw (c .before .n .given .1) at (c .before .before .before .before .read-stream .ensures)
 
--- src/main.rt:50:9
 slice-aggregate-run : tie.Need-slice-aggregate-run
-slice-aggregate-run c = ?
+slice-aggregate-run c =
+    let h = rw (c .before .before .n .given .1) at (c .before .before .before .before .before .read-stream .ensures) in
+    sym (length-take-le _ _ h)
 
--- src/main.rt:50:5
 run-requires : tie.Need-run-requires
 run-requires c κs = search needs
 
--- src/main.rt:34:1
 returns-3 : tie.Need-returns-3
 returns-3 c = search needs
 

@@ -1,3 +1,7 @@
+-- Each arm knows its case of the answer, and a report has digits for a refusal's line.
+use denote.Ref.{now}
+use Rattle.cec_eval.specs.Program.{program}
+use Rattle.cec_eval.proofs.LineLaws.{has-digits}
 use borrow.Author.Needs.{needs}
 use Rattle.cec_eval.proofs.answer.answer.Statement.{statement}
 use Rattle.cec_eval.proofs.answer.answer.Tie as tie
@@ -7,33 +11,35 @@ use Rattle.cec_eval.proofs.answer.evaluate_stream.Reads as evaluate-str
 use Rattle.cec_eval.proofs.answer.refusal_line.Reads as refusal-line-reads
 use Rattle.cec_eval.proofs.answer.word_line.Reads as word-line-reads
 
--- src/answer.rt:68:9
 evaluate-stream-requires : tie.Need-evaluate-stream-requires
 evaluate-stream-requires c κs = search needs
 
--- src/answer.rt:70:25
 enum-known-evaluated : tie.Need-enum-known-evaluated
 enum-known-evaluated c = search needs
 
--- src/answer.rt:70:34
 word-line-requires : tie.Need-word-line-requires
 word-line-requires c κs = search needs
 
--- src/answer.rt:71:28
 enum-known-evaluated-2 : tie.Need-enum-known-evaluated-2
 enum-known-evaluated-2 c = search needs
 
--- src/answer.rt:71:40
 refusal-line-requires : tie.Need-refusal-line-requires
-refusal-line-requires c κs = ?
+refusal-line-requires c κs =
+    let a = c .before .before .before .before .before .args in
+    let e = rw (c .before .evaluated2 .given .1) at (c .before .before .before .evaluate-stream .ensures) in
+    has-digits (now (a .stream)) (a .pattern) _ _ e
 
--- src/answer.rt:65:1
 returns : tie.Need-returns
-returns c = ?
+unfolding program
+returns c =
+    let e = rw (c .before .before .evaluated .given .1) at (c .before .before .before .before .evaluate-stream .ensures) in
+    rw (← e) (c .word-line .ensures)
 
--- src/answer.rt:65:1
 returns-2 : tie.Need-returns-2
-returns-2 c = ?
+unfolding program
+returns-2 c =
+    let e = rw (c .before .before .evaluated2 .given .1) at (c .before .before .before .before .evaluate-stream .ensures) in
+    rw (← e) (c .refusal-line .ensures)
 
 pub answer-spec : {M : Type 1} → statement M
 answer-spec =

@@ -1,3 +1,6 @@
+-- The digits and the LF are stored at the start of zeros.
+use mathlib.Core.Path.{refl}
+use Rattle.cec_eval.proofs.LineLaws.{word-printed}
 use borrow.Author.Needs.{needs}
 use Rattle.cec_eval.proofs.answer.word_line.Statement.{statement}
 use Rattle.cec_eval.proofs.answer.word_line.Tie as tie
@@ -5,25 +8,20 @@ use Rattle.cec_eval.proofs.answer.word_line.Reads as reads
 use Rattle.cec_eval.proofs.answer.word_line.Lts as lts
 use Rattle.frame.proofs.fields.put_hex.Reads as put-hex-reads
 
--- src/answer.rt:44:13
 slice-aggregate-put-hex : tie.Need-slice-aggregate-put-hex
 slice-aggregate-put-hex c = search needs
 
--- src/answer.rt:44:5
 put-hex-requires : tie.Need-put-hex-requires
 put-hex-requires c κs = search needs
 
--- src/answer.rt:45:5
 array-write-line : tie.Need-array-write-line
 array-write-line c = search needs
 
--- src/answer.rt:48:14
 add-t3 : tie.Need-add-t3
 add-t3 c = search needs
 
--- src/answer.rt:40:1
 returns : tie.Need-returns
-returns c = ?
+returns c = word-printed (c .before .before .before .args .word) 19 (c .before .put-hex .last .0) refl (c .before .put-hex .ensures .1)
 
 pub word-line-spec : {M : Type 1} → statement M
 word-line-spec =

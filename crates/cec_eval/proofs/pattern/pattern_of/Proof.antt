@@ -1,3 +1,8 @@
+-- The three ways out (`PatternLaws`).
+use mathlib.Core.Path.{_∙_, sym}
+use native.Mathlib.Omega.{arith}
+use denote.Ref.{now}
+use Rattle.cec_eval.proofs.PatternLaws.{other-length, other-byte, spelled}
 use borrow.Author.Needs.{needs}
 use Rattle.cec_eval.proofs.pattern.pattern_of.Statement.{statement}
 use Rattle.cec_eval.proofs.pattern.pattern_of.Tie as tie
@@ -6,77 +11,63 @@ use Rattle.cec_eval.proofs.pattern.pattern_of.Lts as lts
 use Rattle.frame.proofs.digits.digits_at.Reads as digits-at-reads
 use Rattle.frame.proofs.digits.word_at.Reads as word-at-reads
 
--- src/pattern.rt:19:9
 returns : tie.Need-returns
-returns c = ?
+returns c = other-length (now (c .before .before .args .digits)) (c .if1 .taken)
 
--- src/pattern.rt:21:8
 digits-at-requires : tie.Need-digits-at-requires
 digits-at-requires c κs = search needs
 
--- src/pattern.rt:22:9
 returns-2 : tie.Need-returns-2
-returns-2 c = ?
+returns-2 c =
+    let a = c .before .before .before .before .args in
+    other-byte (now (a .digits)) (omega arith) (λ h. c .if2 .taken (c .before .digits-at .ensures .0 ∙ h))
 
--- src/pattern.rt:24:25
 word-at-requires : tie.Need-word-at-requires
 word-at-requires c κs = search needs
 
--- src/pattern.rt:24:25
 cast-high : tie.Need-cast-high
 cast-high c = search needs
 
--- src/pattern.rt:24:16
 mul-high : tie.Need-mul-high
 mul-high c = search needs
 
--- src/pattern.rt:24:55
 word-at-requires-2 : tie.Need-word-at-requires-2
 word-at-requires-2 c κs = search needs
 
--- src/pattern.rt:24:55
 cast-high-2 : tie.Need-cast-high-2
 cast-high-2 c = search needs
 
--- src/pattern.rt:24:16
 add-high : tie.Need-add-high
 add-high c = search needs
 
--- src/pattern.rt:25:24
 word-at-requires-3 : tie.Need-word-at-requires-3
 word-at-requires-3 c κs = search needs
 
--- src/pattern.rt:25:24
 cast-low : tie.Need-cast-low
 cast-low c = search needs
 
--- src/pattern.rt:25:15
 mul-low : tie.Need-mul-low
 mul-low c = search needs
 
--- src/pattern.rt:25:54
 word-at-requires-4 : tie.Need-word-at-requires-4
 word-at-requires-4 c κs = search needs
 
--- src/pattern.rt:25:54
 cast-low-2 : tie.Need-cast-low-2
 cast-low-2 c = search needs
 
--- src/pattern.rt:25:15
 add-low : tie.Need-add-low
 add-low c = search needs
 
--- src/pattern.rt:26:19
 mul-t10 : tie.Need-mul-t10
 mul-t10 c = search needs
 
--- src/pattern.rt:26:19
 add-t8 : tie.Need-add-t8
 add-t8 c = search needs
 
--- src/pattern.rt:15:1
 returns-3 : tie.Need-returns-3
-returns-3 c = ?
+returns-3 c =
+    let a = c .before .before .before .before .before .before .before .before .args in
+    spelled (now (a .digits)) (omega arith) (omega arith) _ _ _ _ (c .before .before .before .word-at .ensures) (c .before .before .word-at2 .ensures) (c .before .word-at3 .ensures) (c .word-at4 .ensures)
 
 pub pattern-of-spec : {M : Type 1} → statement M
 pattern-of-spec =
