@@ -131,7 +131,7 @@ fn values(left: &Netlist, right: &Netlist, pattern: u64) -> (Vec<u8>, bool) {
 #[test]
 fn the_clauses_say_that_some_output_differs() {
     // The guard with its last output on another net.
-    let damaged = [&GUARD_OLD[..GUARD_OLD.len() - 3], b"30\n"].concat();
+    let damaged = [&GUARD_OLD[..GUARD_OLD.len() - 3], b"00\n"].concat();
     for (left, right, agree) in [
         (ADDER, ADDER, true),
         (GUARD_OLD, GUARD_NEW, true),
