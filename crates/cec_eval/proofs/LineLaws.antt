@@ -1,18 +1,18 @@
 -- The line that is printed: the two ways to an answer, the places of refusals, and each answer's line.
-use Prim.Native.Nat.{ℕ, _+_, _≤_, _<_}
+use Prim.Native.Nat.{ℕ, _≤_, _<_}
 use mathlib.Core.Path.{_≡_, refl, sym, ap, _∙_}
 use mathlib.Core.Bool.{Bool, true, false}
-use mathlib.Core.List.{List, [], _∷_, _++_, append-nil}
+use mathlib.Core.List.{List, [], _∷_, append-nil}
 use native.Mathlib.Omega.{arith}
 use lib.Dec.{leb}
 use lib.ListN.{length, length-append, length-replicate, set}
 use lib.Seq.{sets, length-sets}
 use borrow.Author.Tests.{leb-true, lt-leb, le-leb}
 use Rattle.model.specs.Limits.{highestLine, streamBytes}
-use Rattle.model.specs.Answers.{Answer, guard, zeros, filled}
+use Rattle.model.specs.Answers.{Answer, guard, zeros}
 use Rattle.model.specs.Answers.Answer.{ok, refused}
 use Rattle.model.specs.Lines.{lineFeed}
-use Rattle.model.specs.Frames.{hex, lineOf}
+use Rattle.model.specs.Frames.{hex}
 use Rattle.model.specs.Evaluator.{evaluate}
 use Rattle.laws.specs.Answers.{refused-not-ok}
 use Rattle.laws.specs.Digits.{length-hex}
@@ -51,12 +51,12 @@ module _ (stream : List ℕ) (pattern : ℕ) where
 
 -- ---- the line of each answer
 
-pub word-printed : (word n : ℕ) (out : List ℕ) → n ≡ 19 → out ≡ sets (zeros n) 0 (hex wordDigits word) → Prints (record { line = set out wordDigits lineFeed; len = 17 }) (wordLine word)
-word-printed word n out m e =
+pub word-printed : (word : ℕ) (out : List ℕ) → out ≡ sets (zeros 19) 0 (hex wordDigits word) → Prints (record { line = set out wordDigits lineFeed; len = 17 }) (wordLine word)
+word-printed word out e =
     let digits = length-hex wordDigits word in
     let bytes : length (wordLine word) ≡ 17 = rw length-append (omega (arith, digits)) in
-    let stored : set out wordDigits lineFeed ≡ sets (zeros 19) 0 (wordLine word) =
-    rw (sets-append (zeros 19) 0 (hex wordDigits word) (lineFeed ∷ []), digits, e, m) in
+    let behind = sets-append (zeros 19) 0 (hex wordDigits word) (lineFeed ∷ []) in
+    let stored : set out wordDigits lineFeed ≡ sets (zeros 19) 0 (wordLine word) = rw (behind, digits, e) in
     let long : length (set out wordDigits lineFeed) ≡ 19 = rw (stored, length-sets) (length-replicate {A = ℕ} 19 0) in
     record { line = rw long (stored ∙ fill 19 (wordLine word) (omega arith)); len = sym bytes }
 

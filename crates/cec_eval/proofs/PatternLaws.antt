@@ -1,5 +1,5 @@
 -- 16 digits as one number: four digits at a time, each four a number of 16 bits.
-use Prim.Native.Nat.{ℕ, zero, suc, _+_, _*_, _≤_, _<_}
+use Prim.Native.Nat.{ℕ, suc, _+_, _*_, _≤_}
 use mathlib.Core.Path.{_≡_, refl, sym, ap, _∙_}
 use mathlib.Core.Bool.{Bool, true, false, _&&_, cond, true≢false}
 use mathlib.Core.List.{List, [], _∷_, map}
@@ -11,13 +11,12 @@ use borrow.Author.Tests.{eq-eqb, ne-eqb}
 use Rattle.model.specs.Lines.{isDigit, digitValue}
 use Rattle.model.specs.Frames.{number, twoBytes}
 use Rattle.frame.specs.Digits.{valueOf, values, run, numberAt}
-use Rattle.cec_eval.specs.declared.pattern.Pattern.{Pattern}
 use Rattle.cec_eval.specs.declared.pattern.Pattern.the-variants.{Bits, Wrong}
 use Rattle.cec_eval.specs.Program.{wordDigits, allDigits, patternOf}
 
 -- ---- digits alone
 
--- digits alone, exactly if as many stand at the start as there are bytes
+-- exactly if as many stand at the start as there are bytes
 all-run : (l : List ℕ) → allDigits l ≡ eqb (run l) (length l)
 all-run [] = sym (eq-eqb 0 0 refl)
 all-run (b ∷ s) = go (isDigit b) (all-run s)
@@ -38,6 +37,7 @@ all-values (b ∷ s) h = go (isDigit b) refl h (all-values s)
 
 -- ---- four digits at a time
 
+-- four digits behind a number
 four : (n : ℕ) (vs : List ℕ) → 4 ≤ length vs → number n vs ≡ number (65536 * n + number 0 (take twoBytes vs)) (drop twoBytes vs)
 unfolding number
 four n [] h = absurd (omega arith)

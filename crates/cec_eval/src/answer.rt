@@ -9,7 +9,6 @@ use streams::STREAM_BYTES;
 ghost use mathlib.Core.Path.{_≡_};
 ghost use Prim.Native.Nat.{_≤_};
 ghost use Rattle.model.specs.Limits.{highestLine};
-ghost use Rattle.model.specs.Answers.{Answer};
 ghost use Rattle.evaluator.specs.Values.{evaluatedOf};
 ghost use Rattle.cec_eval.specs.Program.{evaluated, program, Prints, wordLine, reportLine};
 
@@ -19,7 +18,7 @@ const WORD_DIGITS: usize = 16;
 // Working bytes for the largest list: 1 + 64 + 1,024.
 const WORKING_BYTES: usize = 1089;
 
-// A line that is printed: the first bytes, zeros behind.
+// A line to print: its bytes from the start, zeros behind, and how many they are.
 pub struct Printed {
     pub line: [u8; 19],
     pub len: usize,

@@ -312,7 +312,7 @@ fn files_that_cannot_be_read_are_named() {
     all_say("this is a directory");
     fs::remove_dir(folder.join("list")).expect("it is removed");
     fs::write(folder.join("list"), WIRE).expect("it is written");
-    let unreadable = Permissions::from_mode(0);
+    let unreadable = Permissions::from_mode(0o000);
     fs::set_permissions(folder.join("list"), unreadable).expect("it is ours");
     // The superuser reads every file.
     if File::open(folder.join("list")).is_err() {

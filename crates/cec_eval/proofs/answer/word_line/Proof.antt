@@ -1,5 +1,4 @@
 -- The digits and the LF are stored at the start of zeros.
-use mathlib.Core.Path.{refl}
 use Rattle.cec_eval.proofs.LineLaws.{word-printed}
 use borrow.Author.Needs.{needs}
 use Rattle.cec_eval.proofs.answer.word_line.Statement.{statement}
@@ -21,7 +20,7 @@ add-t3 : tie.Need-add-t3
 add-t3 c = search needs
 
 returns : tie.Need-returns
-returns c = word-printed (c .before .before .before .args .word) 19 (c .before .put-hex .last .0) refl (c .before .put-hex .ensures .1)
+returns c = word-printed (c .before .before .before .args .word) (c .before .put-hex .last .0) (c .before .put-hex .ensures .1)
 
 pub word-line-spec : {M : Type 1} → statement M
 word-line-spec =

@@ -1,5 +1,5 @@
 -- The three ways out (`PatternLaws`).
-use mathlib.Core.Path.{_∙_, sym}
+use mathlib.Core.Path.{_∙_}
 use native.Mathlib.Omega.{arith}
 use denote.Ref.{now}
 use Rattle.cec_eval.proofs.PatternLaws.{other-length, other-byte, spelled}
