@@ -414,7 +414,30 @@ fn half_an_answer_is_no_verdict() {
         let root = stand_ins("cut-off", &scripts);
         let words = ["prove", &gate, &wire, "-o", "evidence"];
         let said = run_of(&root, &root, &words);
-        fails(said, "the evidence was not written whole");
+        fails(said, "the evidence is not both lists and a whole proof");
         assert!(!root.join("evidence").exists());
+    }
+}
+
+/// The verdict is about the lists that were given, whatever lists a proving program prints.
+#[test]
+fn evidence_for_other_lists_is_no_evidence() {
+    let [gate, wire, adder] = ["paper-gate", "paper-wire", ADDER].map(sample);
+    let checker = self::root().join("target/bin/cec_check");
+    let checker = format!("exec {}", checker.display());
+    let folder = folder("other-lists");
+    let (status, ..) = run(&folder, &["prove", &gate, &wire, "-o", "evidence"]);
+    assert_eq!(status, Some(0));
+    let other = format!("cat {}/evidence", folder.display());
+    let scripts = [
+        ("target/bin/cec_check", checker.as_str()),
+        ("target/bin/cec_prove", other.as_str()),
+    ];
+    let root = stand_ins("other", &scripts);
+    let (status, ..) = run_of(&root, &folder, &["prove", &gate, &wire]);
+    assert_eq!(status, Some(0));
+    for pair in [[&adder, &adder], [&wire, &gate], [&wire, &wire]] {
+        let said = run_of(&root, &folder, &["prove", pair[0], pair[1]]);
+        fails(said, "the evidence is not both lists and a whole proof");
     }
 }
