@@ -59,7 +59,7 @@ fn says(said: Said, status: i32, printed: &str) {
     assert_eq!(said, (Some(status), format!("{printed}\n"), String::new()));
 }
 
-/// Nothing is printed, and the message is this line, or begins so.
+/// Status 2: nothing is printed, and this is in the message.
 #[track_caller]
 fn fails(said: Said, message: &str) {
     let (status, printed, errors) = said;
