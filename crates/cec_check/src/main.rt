@@ -6,15 +6,7 @@ use libc::STDOUT_FILENO;
 use report::report;
 use streams::Stream;
 use streams::read_stream;
-ghost use mathlib.Core.Path.{_≡_};
-ghost use lib.ListN.{length};
-
-// One byte more than a stream may have, so that a longer one is seen without being read to its end.
-fn room() -> [u8; 65537]
-    ensures { λ r. ⌜ 65537 ≡ length r ⌝ }
-{
-    [0; 65537]
-}
+use streams::room;
 
 fn main() {
     let mut stream = room();

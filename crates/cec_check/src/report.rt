@@ -3,6 +3,7 @@ use checker::Checked;
 use checker::check;
 use frame::report::report_line;
 use netlist::Refusal;
+use streams::STREAM_BYTES;
 ghost use mathlib.Core.Path.{_≡_};
 ghost use Rattle.model.specs.Answers.{Answer};
 ghost use Rattle.model.specs.Frames.{lineOf};
@@ -10,8 +11,6 @@ ghost use Rattle.model.specs.Steps.{State};
 ghost use Rattle.model.specs.Checker as model;
 ghost use Rattle.checker.specs.Verdicts.{checkedOf, countedOf};
 ghost use Rattle.cec_check.specs.Reports.{Fits};
-
-const STREAM_BYTES: usize = 65536;
 
 // The numbers of a store of 4,096 clauses.
 const STORE_NUMBERS: usize = 32768;

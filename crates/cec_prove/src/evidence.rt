@@ -4,10 +4,9 @@ use engine::Proved;
 use engine::prove;
 use frame::fields::clear;
 use netlist::Refusal;
+use streams::STREAM_BYTES;
 ghost use lib.ListN.{length};
 ghost use Rattle.cec_prove.specs.Streams.{Evidence};
-
-const STREAM_BYTES: usize = 65536;
 
 // 1 for a stream that is too long, else the engine's answer. Where there is a proof, the checker accepts it behind the stream; after a refusal
 // the proof bytes are zeros, and the working numbers always.

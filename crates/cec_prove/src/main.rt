@@ -11,17 +11,11 @@ use libc::STDOUT_FILENO;
 use netlist::Refusal;
 use streams::Stream;
 use streams::read_stream;
+use streams::room;
 ghost use mathlib.Core.Path.{_≡_};
 ghost use Prim.Native.Nat.{_*_, _≤_};
 ghost use lib.ListN.{length};
 ghost use Rattle.model.specs.Limits.{highestLine, proofLineBytes};
-
-// One byte more than a stream may have, so that a longer one is seen without being read to its end.
-fn room() -> [u8; 65537]
-    ensures { λ r. ⌜ 65537 ≡ length r ⌝ }
-{
-    [0; 65537]
-}
 
 // Proof bytes for the largest lists: 15 × (16 × 2,048 + 12 × 64).
 fn proof_room() -> [u8; 503040]

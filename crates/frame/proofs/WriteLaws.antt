@@ -181,7 +181,7 @@ module _ (f : Frame) (room : ℕ) where
 
 -- ---- a report's line, in a buffer of just its length
 
-report-length : (refusal line steps clauses : ℕ) → length (lineOf (report refusal line steps clauses)) ≡ 19
+pub report-length : (refusal line steps clauses : ℕ) → length (lineOf (report refusal line steps clauses)) ≡ 19
 unfolding widths total
 report-length refusal line steps clauses = line-length (report refusal line steps clauses) refl
 

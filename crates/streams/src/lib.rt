@@ -1,6 +1,18 @@
-// Standard input, read to its end.
+// Standard input, read to its end, and how long a program's stream may be.
 use libc::STDIN_FILENO;
+ghost use mathlib.Core.Path.{_≡_};
+ghost use lib.ListN.{length};
 ghost use Rattle.streams.specs.Streams.{Within};
+
+// The most bytes that a program takes (document 01, refusal 1).
+pub const STREAM_BYTES: usize = 65536;
+
+// One byte more than a stream may have, so that a longer one is seen without being read to its end.
+pub fn room() -> [u8; 65537]
+    ensures { λ r. ⌜ 65537 ≡ length r ⌝ }
+{
+    [0; 65537]
+}
 
 // How the reading of a stream ended.
 pub enum Stream {

@@ -417,7 +417,7 @@ fn every_byte_and_every_cut_is_answered_alike() {
     tally.finish("every byte and every cut", 257 * xor.len() as u64, &numbers);
 }
 
-/// Each pair of sample lists. The guard and its renamed copy have the same forms.
+/// Each pair of sample lists. Both layouts of the guard have the same forms.
 #[test]
 fn sample_lists_are_proved_alike() {
     let mut tally = Tally::default();

@@ -326,17 +326,46 @@ fn the_sample_adder_adds() {
 
 #[test]
 fn the_sample_guards_agree() {
-    let plain = samples::text(samples::GUARD);
-    let renamed = samples::text(samples::GUARD_RENAMED);
+    let guards = [
+        samples::GUARD_OLD,
+        samples::GUARD_NEW,
+        samples::GUARD_RESYNTHESISED,
+    ];
+    let guards = guards.map(samples::text);
     let mut shown = [0, 0];
     for case in 0..SAMPLE_PATTERNS {
         let pattern = sample_pattern(&mut Random::of_case(seed(), case));
-        let left = word(case, "guard", &plain, pattern);
-        let right = word(case, "guard renamed", &renamed, pattern);
-        assert_eq!(left, right, "seed {:#X}, pattern {pattern:016X}", seed());
-        shown[0] |= !left & 0xFFF;
-        shown[1] |= left;
+        let words = [0, 1, 2].map(|guard| word(case, "guard", &guards[guard], pattern));
+        assert_eq!(
+            words,
+            [words[0]; 3],
+            "seed {:#X}, pattern {pattern:016X}",
+            seed()
+        );
+        shown[0] |= !words[0] & 0xFFF;
+        shown[1] |= words[0];
     }
     assert_eq!(shown, [0xFFF; 2], "an output was never 0, or never 1");
     eprintln!("guards: {SAMPLE_PATTERNS} patterns");
+}
+
+/// On the odd pattern, and on none of those with one or two inputs changed.
+#[test]
+fn the_altered_guard_differs_on_one_pattern() {
+    let old = samples::text(samples::GUARD_OLD);
+    let altered = samples::text(samples::GUARD_ONE_PATTERN);
+    let differing = |case, pattern| {
+        let [old, altered] = [&old, &altered].map(|text| word(case, "guard", text, pattern));
+        old ^ altered
+    };
+    assert_eq!(differing(0, samples::ODD_PATTERN), 0b100);
+    let mut cases = 0;
+    for first in 0..58 {
+        for second in 0..=first {
+            let changed = 1 << first | 1 << second;
+            cases += 1;
+            assert_eq!(differing(cases, samples::ODD_PATTERN ^ changed), 0);
+        }
+    }
+    eprintln!("altered guard: {cases} patterns around the one");
 }

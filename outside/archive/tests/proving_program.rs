@@ -183,7 +183,7 @@ fn faults_by_hand() {
     prints(&(lists + "\n"), "210300008300000000");
 }
 
-/// Each pair of sample lists. The guard and its renamed copy have the same forms.
+/// Each pair of sample lists. Both layouts of the guard have the same forms.
 #[test]
 fn sample_lists_are_proved_alike() {
     let mut tally = Tally::default();
@@ -320,7 +320,7 @@ fn every_cut_is_reported_alike() {
 #[test]
 fn pieces_and_files_are_read_whole() {
     let mut tally = Tally::default();
-    let guards = [samples::GUARD, samples::GUARD_RENAMED].map(samples::text);
+    let guards = [samples::GUARD_OLD, samples::GUARD_NEW].map(samples::text);
     let streams = [
         (LISTS.as_bytes().to_vec(), 1),
         (guards.concat(), 17),

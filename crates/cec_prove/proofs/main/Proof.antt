@@ -7,11 +7,11 @@ use Rattle.cec_prove.proofs.main.Tie as tie
 use Rattle.cec_prove.proofs.main.Reads as reads
 use Rattle.cec_prove.proofs.main.Lts as lts
 use Rattle.cec_prove.proofs.proof_room.Reads as proof-room-reads
-use Rattle.cec_prove.proofs.room.Reads as room-reads
 use Rattle.cec_prove.proofs.run.Reads as run-reads
 use Rattle.cec_prove.proofs.work_room.Reads as work-room-reads
 use Rattle.io.proofs.write_all.Reads as write-all-reads
 use Rattle.streams.proofs.read_stream.Reads as read-stream-reads
+use Rattle.streams.proofs.room.Reads as room-reads
 
 room-requires : tie.Need-room-requires
 room-requires c κs = search needs

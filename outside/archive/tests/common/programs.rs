@@ -29,6 +29,21 @@ pub struct Ended {
     pub errors: Vec<u8>,
 }
 
+/// A program and its arguments.
+#[derive(Clone, Copy)]
+pub struct Call<'words> {
+    pub program: &'words str,
+    pub arguments: &'words [&'words str],
+}
+
+/// Without arguments.
+impl<'words> From<&'words str> for Call<'words> {
+    fn from(program: &'words str) -> Self {
+        let arguments = &[];
+        Self { program, arguments }
+    }
+}
+
 /// A program's file.
 fn file(program: &str) -> PathBuf {
     let dir = env::var_os("CEC_BIN_DIR").unwrap_or_else(|| DEFAULT_DIR.into());
@@ -43,21 +58,21 @@ fn file(program: &str) -> PathBuf {
     file
 }
 
-fn start(program: &str, input: Stdio) -> Child {
-    let mut command = Command::new(file(program));
-    let command = command.stdin(input);
+fn start(call: Call, input: Stdio) -> Child {
+    let mut command = Command::new(file(call.program));
+    let command = command.args(call.arguments).stdin(input);
     let command = command.stdout(Stdio::piped()).stderr(Stdio::piped());
     command.spawn().expect("the program starts")
 }
 
 /// Runs a program on this standard input, which it need not read to the end.
-pub fn run(program: &str, text: &[u8]) -> Ended {
-    run_in_pieces(program, text, text.len().max(1))
+pub fn run<'words>(call: impl Into<Call<'words>>, text: &[u8]) -> Ended {
+    run_in_pieces(call, text, text.len().max(1))
 }
 
 /// The same with the input written in pieces of this length, so that it is read in pieces too.
-pub fn run_in_pieces(program: &str, text: &[u8], length: usize) -> Ended {
-    let mut child = start(program, Stdio::piped());
+pub fn run_in_pieces<'words>(call: impl Into<Call<'words>>, text: &[u8], length: usize) -> Ended {
+    let mut child = start(call.into(), Stdio::piped());
     let mut input = child.stdin.take().expect("standard input is a pipe");
     let text = text.to_vec();
     finish(child, move || {
@@ -74,8 +89,8 @@ pub fn run_in_pieces(program: &str, text: &[u8], length: usize) -> Ended {
 }
 
 /// Runs a program whose standard input is this.
-pub fn run_on(program: &str, input: Stdio) -> Ended {
-    finish(start(program, input), || ())
+pub fn run_on<'words>(call: impl Into<Call<'words>>, input: Stdio) -> Ended {
+    finish(start(call.into(), input), || ())
 }
 
 /// Waits until the program has ended; meanwhile `feed` gives it its input.
@@ -117,8 +132,14 @@ pub fn printed(ended: Ended) -> String {
 
 /// Nothing is printed on standard input that cannot be read to its end, but a message is.
 #[track_caller]
-pub fn is_unread(program: &str, input: Stdio) {
-    let ended = run_on(program, input);
+pub fn is_unread<'words>(call: impl Into<Call<'words>>, input: Stdio) {
+    let call = call.into();
+    only_complains(call.program, run_on(call, input));
+}
+
+/// The program printed nothing but a message that begins with its name.
+#[track_caller]
+pub fn only_complains(program: &str, ended: Ended) {
     let printed = String::from_utf8_lossy(&ended.printed);
     assert_eq!(printed, "");
     let name = format!("{program}: ");
@@ -128,10 +149,10 @@ pub fn is_unread(program: &str, input: Stdio) {
 }
 
 /// Runs a program on this file with these bytes.
-pub fn run_on_file(program: &str, file: &Path, bytes: &[u8]) -> Ended {
+pub fn run_on_file<'words>(call: impl Into<Call<'words>>, file: &Path, bytes: &[u8]) -> Ended {
     fs::write(file, bytes).expect("the file is written");
     let file = File::open(file).expect("the file is there");
-    run_on(program, file.into())
+    run_on(call, file.into())
 }
 
 /// Standard input that is a folder.

@@ -1,19 +1,24 @@
-//! The repository's sample lists, which are of another's making.
+//! The repository's sample lists. samples/README.md says where each comes from.
 
 use std::fs;
-use std::path::Path;
+use std::path::{Path, PathBuf};
 
 use super::lists::Shape;
 
-pub const ADDER: &str = "adder16-plain";
-pub const GUARD: &str = "guard-plain";
-pub const GUARD_RENAMED: &str = "guard-renamed";
+pub const ADDER: &str = "adder16";
+pub const GUARD_OLD: &str = "guard-old";
+pub const GUARD_NEW: &str = "guard-new";
 
-/// Each sample and its shape.
+/// The guard with output 3 complemented on `ODD_PATTERN` alone, and the guard with other forms.
+pub const GUARD_ONE_PATTERN: &str = "guard-one-pattern";
+pub const GUARD_RESYNTHESISED: &str = "guard-resynthesised";
+pub const ODD_PATTERN: u64 = 0x02D4_A1F0_9C3E_6B57;
+
+/// The samples of which each pair has the same forms or unlike headers, and their shapes.
 pub const ALL: [(&str, Shape); 3] = [
     (ADDER, shape(33, 80, 17)),
-    (GUARD, shape(58, 137, 12)),
-    (GUARD_RENAMED, shape(58, 137, 12)),
+    (GUARD_OLD, shape(58, 199, 12)),
+    (GUARD_NEW, shape(58, 194, 12)),
 ];
 
 /// A pattern on which the guard's outputs 3 and 4 are 1. On random patterns they hardly ever are,
@@ -28,9 +33,13 @@ const fn shape(inputs: usize, gates: usize, outputs: usize) -> Shape {
     }
 }
 
-pub fn text(sample: &str) -> Vec<u8> {
+pub fn file(sample: &str) -> PathBuf {
     let folder = Path::new(env!("CARGO_MANIFEST_DIR")).join("../../samples");
-    let file = folder.join(sample).with_extension("txt");
+    folder.join(sample).with_extension("txt")
+}
+
+pub fn text(sample: &str) -> Vec<u8> {
+    let file = file(sample);
     fs::read(&file).unwrap_or_else(|error| panic!("{}: {error}", file.display()))
 }
 

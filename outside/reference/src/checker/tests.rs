@@ -349,6 +349,6 @@ fn the_program_has_limits() {
 
 #[test]
 fn the_samples_against_themselves_are_15() {
-    let adder = include_str!("../../../../samples/adder16-plain.txt");
+    let adder = include_str!("../../../../samples/adder16.txt");
     faulty(&adder.repeat(2), 15, 0);
 }

@@ -11,9 +11,9 @@ use crate::literal::Literal;
 use crate::miter::gates;
 use crate::sample::LISTS;
 
-const ADDER: &str = include_str!("../../../../samples/adder16-plain.txt");
-const GUARD: &str = include_str!("../../../../samples/guard-plain.txt");
-const GUARD_RENAMED: &str = include_str!("../../../../samples/guard-renamed.txt");
+const ADDER: &str = include_str!("../../../../samples/adder16.txt");
+const GUARD_OLD: &str = include_str!("../../../../samples/guard-old.txt");
+const GUARD_NEW: &str = include_str!("../../../../samples/guard-new.txt");
 
 /// The reply in buffers of these lengths, full of garbage. The working numbers end as zeros, the
 /// proof ends in zeros, and after a refusal it is nothing else.
@@ -134,9 +134,9 @@ fn the_first_output_that_differs_is_given() {
 #[test]
 fn sample_lists_are_proved() {
     proved(&ADDER.repeat(2));
-    proved(&GUARD.repeat(2));
-    proved(&format!("{GUARD}{GUARD_RENAMED}"));
-    proved(&format!("{GUARD_RENAMED}{GUARD}"));
+    proved(&GUARD_OLD.repeat(2));
+    proved(&format!("{GUARD_OLD}{GUARD_NEW}"));
+    proved(&format!("{GUARD_NEW}{GUARD_OLD}"));
 }
 
 /// The gate against each literal over the input: just one has the form.

@@ -2,9 +2,9 @@
 
 use super::*;
 
-const ADDER: &[u8] = include_bytes!("../../../../samples/adder16-plain.txt");
-const GUARD: &[u8] = include_bytes!("../../../../samples/guard-plain.txt");
-const GUARD_RENAMED: &[u8] = include_bytes!("../../../../samples/guard-renamed.txt");
+const ADDER: &[u8] = include_bytes!("../../../../samples/adder16.txt");
+const GUARD_OLD: &[u8] = include_bytes!("../../../../samples/guard-old.txt");
+const GUARD_NEW: &[u8] = include_bytes!("../../../../samples/guard-new.txt");
 
 /// The most working bytes that a list can need.
 const ENOUGH: usize = 1 + 64 + 1_024;
@@ -149,8 +149,8 @@ fn the_sample_guards_agree() {
     let mut shown = 0;
     let mut hidden = 0;
     for pattern in patterns().chain([working]).chain(near) {
-        let guard = word(GUARD, pattern);
-        assert_eq!(guard, word(GUARD_RENAMED, pattern), "{pattern:016X}");
+        let guard = word(GUARD_OLD, pattern);
+        assert_eq!(guard, word(GUARD_NEW, pattern), "{pattern:016X}");
         shown |= guard;
         hidden |= !guard;
     }

@@ -5,9 +5,9 @@ use crate::evaluator::{evaluate_nets, output_word};
 use crate::netlist::read_lists;
 use crate::sample::LISTS;
 
-const ADDER: &[u8] = include_bytes!("../../../../samples/adder16-plain.txt");
-const GUARD: &[u8] = include_bytes!("../../../../samples/guard-plain.txt");
-const GUARD_RENAMED: &[u8] = include_bytes!("../../../../samples/guard-renamed.txt");
+const ADDER: &[u8] = include_bytes!("../../../../samples/adder16.txt");
+const GUARD_OLD: &[u8] = include_bytes!("../../../../samples/guard-old.txt");
+const GUARD_NEW: &[u8] = include_bytes!("../../../../samples/guard-new.txt");
 
 fn lists(text: &[u8]) -> (Netlist, Netlist) {
     read_lists(text).expect("the lists are read")
@@ -131,11 +131,11 @@ fn values(left: &Netlist, right: &Netlist, pattern: u64) -> (Vec<u8>, bool) {
 #[test]
 fn the_clauses_say_that_some_output_differs() {
     // The guard with its last output on another net.
-    let damaged = [&GUARD[..GUARD.len() - 3], b"30\n"].concat();
+    let damaged = [&GUARD_OLD[..GUARD_OLD.len() - 3], b"00\n"].concat();
     for (left, right, agree) in [
         (ADDER, ADDER, true),
-        (GUARD, GUARD_RENAMED, true),
-        (GUARD, &damaged, false),
+        (GUARD_OLD, GUARD_NEW, true),
+        (GUARD_OLD, &damaged, false),
     ] {
         let (left, right) = lists(&[left, right].concat());
         let miter = Miter::of(&left, &right);

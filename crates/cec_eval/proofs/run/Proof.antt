@@ -1,0 +1,36 @@
+-- The line is no longer than its bytes.
+use mathlib.Core.Path.{sym}
+use lib.Seq.{length-take-le}
+use Rattle.cec_eval.proofs.LineLaws.{printed-within}
+use borrow.Author.Needs.{needs}
+use Rattle.cec_eval.proofs.run.Statement.{statement}
+use Rattle.cec_eval.proofs.run.Tie as tie
+use Rattle.cec_eval.proofs.run.Reads as reads
+use Rattle.cec_eval.proofs.run.Lts as lts
+use Rattle.cec_eval.proofs.answer.answer.Reads as answer-reads
+use Rattle.io.proofs.write_all.Reads as write-all-reads
+
+answer-requires : tie.Need-answer-requires
+answer-requires c κs = search needs
+
+array-share-prefix-line : tie.Need-array-share-prefix-line
+array-share-prefix-line c = printed-within (c .before .answer .ensures)
+
+slice-aggregate-write-all : tie.Need-slice-aggregate-write-all
+slice-aggregate-write-all c = sym (length-take-le _ _ (printed-within (c .before .before .answer .ensures)))
+
+write-all-requires : tie.Need-write-all-requires
+write-all-requires c κs = search needs
+
+returns : tie.Need-returns
+returns c = search needs
+
+pub run-spec : {M : Type 1} → statement M
+run-spec =
+    tie.close
+    (tie.spec
+    answer-requires
+    array-share-prefix-line
+    slice-aggregate-write-all
+    write-all-requires
+    returns)

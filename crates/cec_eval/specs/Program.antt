@@ -1,0 +1,59 @@
+-- What the evaluating program takes for a pattern, and what it prints.
+use Prim.Native.Nat.{ℕ, _+_}
+use mathlib.Core.Path.{_≡_}
+use mathlib.Core.Bool.{Bool, true, _&&_, cond}
+use mathlib.Core.List.{List, [], _∷_, _++_, map}
+use lib.Dec.{eqb, leb}
+use lib.ListN.{length}
+use Rattle.model.specs.Limits.{mostInputs, mostGates, streamBytes}
+use Rattle.model.specs.Answers.{Answer, guard, filled}
+use Rattle.model.specs.Answers.Answer.{ok, refused}
+use Rattle.model.specs.Lines.{isDigit, digitValue, lineFeed}
+use Rattle.model.specs.Frames.{number, hex, lineOf}
+use Rattle.model.specs.Evaluator.{evaluate}
+use Rattle.frame.specs.Frames.{report}
+use Rattle.cec_eval.specs.declared.pattern.Pattern.{Pattern}
+use Rattle.cec_eval.specs.declared.pattern.Pattern.the-variants.{Bits, Wrong}
+use Rattle.cec_eval.specs.declared.answer.Printed.{Printed}
+
+-- ---- the argument
+
+-- the digits of 64 bits
+abbrev pub wordDigits : ℕ
+wordDigits = 16
+
+abbrev pub allDigits : List ℕ → Bool
+allDigits [] = true
+allDigits (b ∷ s) = isDigit b && allDigits s
+
+-- 16 digits are the pattern that they spell, and nothing else is one
+unfoldable pub patternOf : List ℕ → Pattern
+patternOf bytes = cond (eqb (length bytes) wordDigits && allDigits bytes) (Bits (number 0 (map digitValue bytes))) Wrong
+
+-- ---- the line that is printed
+
+-- working bytes 'at least 1 + I + gates' for every list, so that 17 does not occur
+abbrev pub workingBytes : ℕ
+workingBytes = 1 + mostInputs + mostGates
+
+-- the word of a stream's list on a pattern; 1: 'over 65,536 bytes; line 0'
+unfoldable pub evaluated : List ℕ → ℕ → Answer ℕ
+evaluated stream pattern = guard (leb (length stream) streamBytes) 1 0 (evaluate stream pattern workingBytes)
+
+abbrev pub wordLine : ℕ → List ℕ
+wordLine word = hex wordDigits word ++ (lineFeed ∷ [])
+
+abbrev pub reportLine : ℕ → ℕ → List ℕ
+reportLine number line = lineOf (report number line 0 0)
+
+abbrev pub lineFor : Answer ℕ → List ℕ
+lineFor (ok word) = wordLine word
+lineFor (refused number line) = reportLine number line
+
+unfoldable pub program : List ℕ → ℕ → List ℕ
+program stream pattern = lineFor (evaluated stream pattern)
+
+-- the bytes of a line, and how many they are
+pub record Prints (p : Printed) (bytes : List ℕ) : Type 0 where
+  pub line : p .line ≡ filled (length (p .line)) bytes
+  pub len : p .len ≡ length bytes

@@ -1,0 +1,72 @@
+// A stream's answer: the word of its list on a pattern, or the refusal, as the one line that the program prints.
+use evaluator::Evaluated;
+use evaluator::evaluate;
+use frame::fields::put_hex;
+use frame::report::REPORT_BYTES;
+use frame::report::report_line;
+use netlist::Refusal;
+use streams::STREAM_BYTES;
+ghost use mathlib.Core.Path.{_≡_};
+ghost use Prim.Native.Nat.{_≤_};
+ghost use Rattle.model.specs.Limits.{highestLine};
+ghost use Rattle.evaluator.specs.Values.{evaluatedOf};
+ghost use Rattle.cec_eval.specs.Program.{evaluated, program, Prints, wordLine, reportLine};
+
+// The digits of a word of 64 bits.
+const WORD_DIGITS: usize = 16;
+
+// Working bytes for the largest list: 1 + 64 + 1,024.
+const WORKING_BYTES: usize = 1089;
+
+// A line to print: its bytes from the start, zeros behind, and how many they are.
+pub struct Printed {
+    pub line: [u8; 19],
+    pub len: usize,
+}
+
+// The word of a stream's list on a pattern, or 1 for a stream that is too long.
+fn evaluate_stream(stream: &[u8], pattern: u64) -> Evaluated
+    ensures { λ r. ⌜ evaluatedOf r ≡ evaluated (now (stream .entry)) pattern ⌝ }
+{
+    if STREAM_BYTES < stream.len() {
+        return Evaluated::Refused(Refusal { number: 1, line: 0 });
+    }
+    let mut work = [0u8; WORKING_BYTES];
+    evaluate(stream, pattern, &mut work)
+}
+
+// A word's digits and LF.
+fn word_line(word: u64) -> Printed
+    ensures { λ r. ⌜ Prints r (wordLine word) ⌝ }
+{
+    let mut line = [0u8; REPORT_BYTES];
+    put_hex(&mut line, 0, word as usize, WORD_DIGITS);
+    line[WORD_DIGITS] = 10;
+    Printed {
+        line,
+        len: WORD_DIGITS + 1,
+    }
+}
+
+// A refusal's report frame.
+fn refusal_line(refusal: Refusal) -> Printed
+    requires { ⌜ refusal .line ≤ highestLine ⌝ }
+    ensures { λ r. ⌜ Prints r (reportLine (refusal .number) (refusal .line)) ⌝ }
+{
+    let line = report_line(refusal.number, refusal.line, 0, 0);
+    Printed {
+        line,
+        len: REPORT_BYTES,
+    }
+}
+
+// The line that the program prints for a stream and a pattern.
+pub fn answer(stream: &[u8], pattern: u64) -> Printed
+    ensures { λ r. ⌜ Prints r (program (now (stream .entry)) pattern) ⌝ }
+{
+    let evaluated = evaluate_stream(stream, pattern);
+    match evaluated {
+        Evaluated::Word(word) => word_line(word),
+        Evaluated::Refused(refusal) => refusal_line(refusal),
+    }
+}
