@@ -101,7 +101,7 @@ fn evidence(lists: Vec<u8>) -> Vec<u8> {
 }
 
 fn large(random: &mut Random, target: Target) -> Vec<Vec<u8>> {
-    let guards = [samples::GUARD, samples::GUARD_RENAMED].map(samples::text);
+    let guards = [samples::GUARD_OLD, samples::GUARD_NEW].map(samples::text);
     match target {
         Target::Check => {
             let lists = [300, LARGEST.gates].map(|gates| rewrites::large(random, gates).text());
