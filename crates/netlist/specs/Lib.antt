@@ -1,2 +1,3 @@
 pub mod Says
 pub mod Again
+pub mod Plain

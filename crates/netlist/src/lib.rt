@@ -2,6 +2,7 @@
 // Every text gets an answer. Reading goes from the top; the first fault ends it, and no more of the text is looked at.
 pub mod again; // gates and outputs of a list that was read, by their place
 pub mod lines; // the lines of a list: header, gates, outputs, and the end
+pub mod plain; // gates and outputs in a row that are known at one look
 
 use frame::Cursor;
 use lines::read_body;

@@ -4,15 +4,17 @@ use crate::Behind;
 use crate::Counts;
 use crate::Part;
 use crate::Refusal;
+use crate::again::GATE_BYTES;
+use crate::again::OUTPUT_BYTES;
+use crate::plain::plain_gates;
+use crate::plain::plain_outputs;
 use frame::Cursor;
 use frame::Frame;
 use frame::Line;
 use frame::read_line;
-use words::read::gate_line;
-use words::read::output_line;
 ghost use mathlib.Core.Path.{_≡_};
 ghost use Prim.Native.Nat.{_+_, _≤_};
-ghost use Rattle.model.specs.Limits.{mostInputs, mostGates};
+ghost use Rattle.model.specs.Limits.{mostInputs, mostGates, mostOutputs};
 ghost use Rattle.frame.specs.Frames.{Inside};
 ghost use Rattle.netlist.specs.Says.{missingOf, HeaderSays, GateSays, GatesSay, OutputSays, OutputsSay, BodySays, EndSays};
 
@@ -78,7 +80,7 @@ pub fn read_gate(text: &[u8], cursor: Cursor, net: usize) -> Behind
     ensures { λ r. ⌜ GateSays (now (text .entry)) cursor net r ⌝ }
 {
     let line = cursor.line;
-    let got = gate_line(text, cursor);
+    let got = read_line(text, cursor);
     let Line::Read(frame, next) = got else {
         return Behind::Refused(missing(got, line));
     };
@@ -94,9 +96,9 @@ pub fn read_gate(text: &[u8], cursor: Cursor, net: usize) -> Behind
     Behind::At(next)
 }
 
-// So many gates, of which the first is this net.
-pub fn read_gates(text: &[u8], cursor: Cursor, first: usize, count: usize) -> Behind
-    requires { ⌜ Inside (now text) cursor × (first ≤ 1 + mostInputs) × (count ≤ mostGates) ⌝ }
+// So many gates, of which the first is this net, one by one.
+fn each_gate(text: &[u8], cursor: Cursor, first: usize, count: usize) -> Behind
+    requires { ⌜ Inside (now text) cursor × (first + count ≤ 1 + mostInputs + mostGates) ⌝ }
     ensures { λ r. ⌜ GatesSay (now (text .entry)) cursor first count r ⌝ }
 {
     let mut c = cursor;
@@ -112,13 +114,29 @@ pub fn read_gates(text: &[u8], cursor: Cursor, first: usize, count: usize) -> Be
     Behind::At(c)
 }
 
+// So many gates, of which the first is this net: those known at one look, and the others one by one.
+pub fn read_gates(text: &[u8], cursor: Cursor, first: usize, count: usize) -> Behind
+    requires { ⌜ Inside (now text) cursor × (first ≤ 1 + mostInputs) × (count ≤ mostGates) ⌝ }
+    ensures { λ r. ⌜ GatesSay (now (text .entry)) cursor first count r ⌝ }
+{
+    let known = plain_gates(text, cursor.at, first, count);
+    let rest = Cursor {
+        at: cursor.at + GATE_BYTES * known,
+        line: cursor.line + known,
+    };
+    if known == count {
+        return Behind::At(rest);
+    }
+    each_gate(text, rest, first + known, count - known)
+}
+
 // An output of a list with so many nets: it reads any of them.
 pub fn read_output(text: &[u8], cursor: Cursor, nets: usize) -> Behind
     requires { ⌜ Inside (now text) cursor ⌝ }
     ensures { λ r. ⌜ OutputSays (now (text .entry)) cursor nets r ⌝ }
 {
     let line = cursor.line;
-    let got = output_line(text, cursor);
+    let got = read_line(text, cursor);
     let Line::Read(frame, next) = got else {
         return Behind::Refused(missing(got, line));
     };
@@ -131,8 +149,8 @@ pub fn read_output(text: &[u8], cursor: Cursor, nets: usize) -> Behind
     Behind::At(next)
 }
 
-// So many outputs.
-pub fn read_outputs(text: &[u8], cursor: Cursor, nets: usize, count: usize) -> Behind
+// So many outputs, one by one.
+fn each_output(text: &[u8], cursor: Cursor, nets: usize, count: usize) -> Behind
     requires { ⌜ Inside (now text) cursor ⌝ }
     ensures { λ r. ⌜ OutputsSay (now (text .entry)) cursor nets count r ⌝ }
 {
@@ -149,9 +167,25 @@ pub fn read_outputs(text: &[u8], cursor: Cursor, nets: usize, count: usize) -> B
     Behind::At(c)
 }
 
+// So many outputs: those known at one look, and the others one by one.
+pub fn read_outputs(text: &[u8], cursor: Cursor, nets: usize, count: usize) -> Behind
+    requires { ⌜ Inside (now text) cursor × (count ≤ mostOutputs) ⌝ }
+    ensures { λ r. ⌜ OutputsSay (now (text .entry)) cursor nets count r ⌝ }
+{
+    let known = plain_outputs(text, cursor.at, nets, count);
+    let rest = Cursor {
+        at: cursor.at + OUTPUT_BYTES * known,
+        line: cursor.line + known,
+    };
+    if known == count {
+        return Behind::At(rest);
+    }
+    each_output(text, rest, nets, count - known)
+}
+
 // The gates and the outputs behind a header.
 pub fn read_body(text: &[u8], cursor: Cursor, counts: Counts) -> Behind
-    requires { ⌜ Inside (now text) cursor × (counts .inputs ≤ mostInputs) × (counts .gates ≤ mostGates) ⌝ }
+    requires { ⌜ Inside (now text) cursor × (counts .inputs ≤ mostInputs) × (counts .gates ≤ mostGates) × (counts .outputs ≤ mostOutputs) ⌝ }
     ensures { λ r. ⌜ BodySays (now (text .entry)) cursor counts r ⌝ }
 {
     let first = 1 + counts.inputs;

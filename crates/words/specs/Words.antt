@@ -34,3 +34,8 @@ pub record IsGate (digit : ℕ) (op : Op) : Type 0 where
 abbrev pub Looked : List ℕ → ℕ → Look → Type 0
 Looked text at (Is f behind) = (at < behind) × (behind ≤ length text) × ((line : ℕ) → found (frameOf f) (lines (drop behind text)) (suc line) ≡ first (lines (drop at text)) line)
 Looked text at Other = Unit {0}
+
+-- where a line was known, it ends there
+abbrev pub Ends : Look → ℕ → Type 0
+Ends (Is f behind) at = behind ≡ at
+Ends Other at = Unit {0}

@@ -14,7 +14,7 @@ ghost use Prim.Native.Nat.{_+_, _≤_};
 ghost use lib.ListN.{drop, length};
 ghost use Rattle.model.specs.Lines.{lines};
 ghost use Rattle.frame.specs.Frames.{first, firstOf, Inside, Ahead};
-ghost use Rattle.words.specs.Words.{Four, Looked, IsGate};
+ghost use Rattle.words.specs.Words.{Four, Looked, Ends, IsGate};
 
 // The frame of the line at a place, and the place behind it; or not known at one look.
 pub enum Look {
@@ -97,9 +97,10 @@ fn op_of(digit: u8) -> Op
 }
 
 // Kinds 02 and 03.
-fn look_gate(text: &[u8], at: usize) -> Look
+pub fn look_gate(text: &[u8], at: usize) -> Look
     requires { ⌜ at ≤ length (now text) ⌝ }
-    ensures { λ r. ⌜ Looked (now (text .entry)) at r ⌝ }
+    ensures looks { λ r. ⌜ Looked (now (text .entry)) at r ⌝ }
+    ensures ends { λ r. ⌜ Ends r (at + 11) ⌝ }
 {
     if text.len() - at < 11 {
         return Look::Other;
@@ -137,9 +138,10 @@ fn look_gate(text: &[u8], at: usize) -> Look
 }
 
 // Kind 04.
-fn look_output(text: &[u8], at: usize) -> Look
+pub fn look_output(text: &[u8], at: usize) -> Look
     requires { ⌜ at ≤ length (now text) ⌝ }
-    ensures { λ r. ⌜ Looked (now (text .entry)) at r ⌝ }
+    ensures looks { λ r. ⌜ Looked (now (text .entry)) at r ⌝ }
+    ensures ends { λ r. ⌜ Ends r (at + 7) ⌝ }
 {
     if text.len() - at < 7 {
         return Look::Other;

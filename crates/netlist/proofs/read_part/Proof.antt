@@ -33,7 +33,7 @@ returns c =
 read-body-requires : tie.Need-read-body-requires
 read-body-requires c κs =
     let h = rw (c .before .header .given .1) at (c .before .before .before .read-header .ensures) in
-    (h .inside, h .inputs, h .gates)
+    (h .inside, h .inputs, h .gates, h .outputs)
 
 enum-known-behind : tie.Need-enum-known-behind
 enum-known-behind c = search needs

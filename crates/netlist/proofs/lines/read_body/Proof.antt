@@ -31,7 +31,7 @@ add-read-outputs : tie.Need-add-read-outputs
 add-read-outputs c = search needs
 
 read-outputs-requires : tie.Need-read-outputs-requires
-read-outputs-requires c κs = (rw (c .before .behind .given .1) at (c .before .before .before .read-gates .ensures)) .inside
+read-outputs-requires c κs = ((rw (c .before .behind .given .1) at (c .before .before .before .read-gates .ensures)) .inside, c .before .before .before .before .before .before .pre .3)
 
 returns-2 : tie.Need-returns-2
 returns-2 c =

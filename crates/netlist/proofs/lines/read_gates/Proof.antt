@@ -1,81 +1,64 @@
--- The invariant: of the lines asked for i are read (`LoopLaws`); the measure is how many are left.
-use Prim.Native.Nat.{_≤_, _-_}
+-- The row of gates that are known, and behind it the others (`gates-joined`).
+use Prim.Native.Nat.{_-_}
 use mathlib.Core.Path.{_≡_}
 use native.Mathlib.Omega.{arith}
-use borrow.Author.Needs.{needs}
 use denote.Ref.{now}
-use Rattle.netlist.specs.Says.{GatesRead}
-use Rattle.netlist.proofs.LoopLaws.{gates-none, gates-refused, gates-more}
+use Rattle.netlist.proofs.PlainLaws.{all-gates, gates-joined}
+use borrow.Author.Needs.{needs}
 use Rattle.netlist.proofs.lines.read_gates.Statement.{statement}
 use Rattle.netlist.proofs.lines.read_gates.Tie as tie
 use Rattle.netlist.proofs.lines.read_gates.Reads as reads
 use Rattle.netlist.proofs.lines.read_gates.Lts as lts
-use Rattle.netlist.proofs.lines.read_gate.Reads as read-gate-reads
+use Rattle.netlist.proofs.lines.each_gate.Reads as each-gate-reads
+use Rattle.netlist.proofs.plain.plain_gates.Reads as plain-gates-reads
 
-abbrev Inv-loop : tie.InvT-loop
-Inv-loop text first count c₀ i₀ c i = (i ≤ count) × GatesRead text c₀ first count i c
+plain-gates-requires : tie.Need-plain-gates-requires
+plain-gates-requires c κs = search needs
 
-abbrev μ-loop : tie.MeasureT-loop
-μ-loop text first count c₀ i₀ c i = count - i
+mul-each-gate : tie.Need-mul-each-gate
+mul-each-gate c = search needs
 
-loop-holds : tie.Need-loop-holds Inv-loop μ-loop
-loop-holds c =
-    let a = c .before .args in
-    (omega arith, gates-none (now (a .text)) (a .cursor) (a .first) (a .count) (c .before .pre .0))
+add-each-gate : tie.Need-add-each-gate
+add-each-gate c = search needs
 
-add-read-gate : tie.Need-add-read-gate Inv-loop μ-loop
-add-read-gate c = search needs
+add-t9 : tie.Need-add-t9
+add-t9 c = search needs
 
-read-gate-requires : tie.Need-read-gate-requires Inv-loop μ-loop
-read-gate-requires c κs = c .before .loop .inv .1 .inside
-
-enum-known-gate : tie.Need-enum-known-gate Inv-loop μ-loop
-enum-known-gate c = search needs
-
-enum-told : tie.Need-enum-told Inv-loop μ-loop
-enum-told c = search needs
-
-returns : tie.Need-returns Inv-loop μ-loop
+returns : tie.Need-returns
 returns c =
-    let a = c .before .before .before .before .before .before .args in
-    let l = c .before .before .before .before .loop in
-    let one = c .before .before .read-gate in
-    rw (c .enum-told .given .1)
-    (gates-refused (now (a .text)) (a .cursor) (a .first) (a .count) (l .i) (l .c) (l .inv .1) (omega arith) _ (rw (c .enum-told .given .1) at (one .ensures)))
+    let b = c .before .before .before .before .before in
+    let known = c .before .before .before .plain-gates in
+    let e : known .result ≡ b .args .count = omega (arith, c .if1 .taken) in
+    all-gates e (known .ensures .1 (b .args .cursor .line) (b .pre .0 .line))
 
-add-i : tie.Need-add-i Inv-loop μ-loop
-add-i c = search needs
+add-each-gate-2 : tie.Need-add-each-gate-2
+add-each-gate-2 c = search needs
 
-loop-less : tie.Need-loop-less Inv-loop μ-loop
-loop-less c = search needs
+sub-each-gate : tie.Need-sub-each-gate
+sub-each-gate c = search needs
 
-loop-again : tie.Need-loop-again Inv-loop μ-loop
-loop-again c =
-    let a = c .before .before .before .before .before .before .before .args in
-    let l = c .before .before .before .before .before .loop in
-    let one = c .before .before .before .read-gate in
-    (omega arith, gates-more (now (a .text)) (a .cursor) (a .first) (a .count) (l .i) (l .c) (l .inv .1) (omega arith) _ (rw (c .before .gate .given .1) at (one .ensures)))
+each-gate-requires : tie.Need-each-gate-requires
+each-gate-requires c κs =
+    let b = c .before .before .before .before .before in
+    let known = c .before .before .before .plain-gates in
+    (known .ensures .1 (b .args .cursor .line) (b .pre .0 .line) .inside, omega (arith, known .ensures .0))
 
-returns-2 : tie.Need-returns-2 Inv-loop μ-loop
+returns-2 : tie.Need-returns-2
 returns-2 c =
-    let a = c .before .before .before .args in
-    let l = c .before .loop in
-    let e : l .i ≡ a .count = omega arith in
-    rw e at (l .inv .1)
+    let b = c .before .before .before .before .before .before in
+    let known = c .before .before .before .before .plain-gates in
+    gates-joined (now (b .args .text)) (b .args .cursor) (b .args .first) (b .args .count) (known .result) _ (c .each-gate .result) (known .ensures .0) (known .ensures .1 (b .args .cursor .line) (b .pre .0 .line)) (c .each-gate .ensures)
 
 pub read-gates-spec : {M : Type 1} → statement M
 read-gates-spec =
     tie.close
     (tie.spec
-    Inv-loop
-    μ-loop
-    loop-holds
-    add-read-gate
-    read-gate-requires
-    enum-known-gate
-    enum-told
+    plain-gates-requires
+    mul-each-gate
+    add-each-gate
+    add-t9
     returns
-    add-i
-    loop-less
-    loop-again
+    add-each-gate-2
+    sub-each-gate
+    each-gate-requires
     returns-2)

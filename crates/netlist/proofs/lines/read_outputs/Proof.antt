@@ -1,77 +1,60 @@
--- The invariant: of the lines asked for k are read (`LoopLaws`); the measure is how many are left.
-use Prim.Native.Nat.{_≤_, _-_}
+-- The row of outputs that are known, and behind it the others (`outputs-joined`).
+use Prim.Native.Nat.{_-_}
 use mathlib.Core.Path.{_≡_}
 use native.Mathlib.Omega.{arith}
-use borrow.Author.Needs.{needs}
 use denote.Ref.{now}
-use Rattle.netlist.specs.Says.{OutputsRead}
-use Rattle.netlist.proofs.LoopLaws.{outputs-none, outputs-refused, outputs-more}
+use Rattle.netlist.proofs.PlainLaws.{all-outputs, outputs-joined}
+use borrow.Author.Needs.{needs}
 use Rattle.netlist.proofs.lines.read_outputs.Statement.{statement}
 use Rattle.netlist.proofs.lines.read_outputs.Tie as tie
 use Rattle.netlist.proofs.lines.read_outputs.Reads as reads
 use Rattle.netlist.proofs.lines.read_outputs.Lts as lts
-use Rattle.netlist.proofs.lines.read_output.Reads as read-output-reads
+use Rattle.netlist.proofs.lines.each_output.Reads as each-output-reads
+use Rattle.netlist.proofs.plain.plain_outputs.Reads as plain-outputs-reads
 
-abbrev Inv-loop : tie.InvT-loop
-Inv-loop text nets count c₀ k₀ c k = (k ≤ count) × OutputsRead text c₀ nets count k c
+plain-outputs-requires : tie.Need-plain-outputs-requires
+plain-outputs-requires c κs = search needs
 
-abbrev μ-loop : tie.MeasureT-loop
-μ-loop text nets count c₀ k₀ c k = count - k
+mul-t7 : tie.Need-mul-t7
+mul-t7 c = search needs
 
-loop-holds : tie.Need-loop-holds Inv-loop μ-loop
-loop-holds c =
-    let a = c .before .args in
-    (omega arith, outputs-none (now (a .text)) (a .cursor) (a .nets) (a .count) (c .before .pre))
+add-t8 : tie.Need-add-t8
+add-t8 c = search needs
 
-read-output-requires : tie.Need-read-output-requires Inv-loop μ-loop
-read-output-requires c κs = c .before .loop .inv .1 .inside
+add-t9 : tie.Need-add-t9
+add-t9 c = search needs
 
-enum-known-output : tie.Need-enum-known-output Inv-loop μ-loop
-enum-known-output c = search needs
-
-enum-told : tie.Need-enum-told Inv-loop μ-loop
-enum-told c = search needs
-
-returns : tie.Need-returns Inv-loop μ-loop
+returns : tie.Need-returns
 returns c =
-    let a = c .before .before .before .before .before .before .args in
-    let l = c .before .before .before .before .loop in
-    let one = c .before .before .read-output in
-    rw (c .enum-told .given .1)
-    (outputs-refused (now (a .text)) (a .cursor) (a .nets) (a .count) (l .k) (l .c) (l .inv .1) (omega arith) _ (rw (c .enum-told .given .1) at (one .ensures)))
+    let b = c .before .before .before .before .before in
+    let known = c .before .before .before .plain-outputs in
+    let e : known .result ≡ b .args .count = omega (arith, c .if1 .taken) in
+    all-outputs e (known .ensures .1 (b .args .cursor .line) (b .pre .0 .line))
 
-add-k : tie.Need-add-k Inv-loop μ-loop
-add-k c = search needs
+sub-each-output : tie.Need-sub-each-output
+sub-each-output c = search needs
 
-loop-less : tie.Need-loop-less Inv-loop μ-loop
-loop-less c = search needs
+each-output-requires : tie.Need-each-output-requires
+each-output-requires c κs =
+    let b = c .before .before .before .before .before in
+    let known = c .before .before .before .plain-outputs in
+    known .ensures .1 (b .args .cursor .line) (b .pre .0 .line) .inside
 
-loop-again : tie.Need-loop-again Inv-loop μ-loop
-loop-again c =
-    let a = c .before .before .before .before .before .before .before .args in
-    let l = c .before .before .before .before .before .loop in
-    let one = c .before .before .before .read-output in
-    (omega arith, outputs-more (now (a .text)) (a .cursor) (a .nets) (a .count) (l .k) (l .c) (l .inv .1) (omega arith) _ (rw (c .before .output .given .1) at (one .ensures)))
-
-returns-2 : tie.Need-returns-2 Inv-loop μ-loop
+returns-2 : tie.Need-returns-2
 returns-2 c =
-    let a = c .before .before .before .args in
-    let l = c .before .loop in
-    let e : l .k ≡ a .count = omega arith in
-    rw e at (l .inv .1)
+    let b = c .before .before .before .before .before .before in
+    let known = c .before .before .before .before .plain-outputs in
+    outputs-joined (now (b .args .text)) (b .args .cursor) (b .args .nets) (b .args .count) (known .result) _ (c .each-output .result) (known .ensures .0) (known .ensures .1 (b .args .cursor .line) (b .pre .0 .line)) (c .each-output .ensures)
 
 pub read-outputs-spec : {M : Type 1} → statement M
 read-outputs-spec =
     tie.close
     (tie.spec
-    Inv-loop
-    μ-loop
-    loop-holds
-    read-output-requires
-    enum-known-output
-    enum-told
+    plain-outputs-requires
+    mul-t7
+    add-t8
+    add-t9
     returns
-    add-k
-    loop-less
-    loop-again
+    sub-each-output
+    each-output-requires
     returns-2)

@@ -91,7 +91,7 @@ returns-8 c =
     let f : at + 2 + 4 ≡ at + 6 = omega arith in
     let l = read-words text at (gateKind op) (x ∷ y ∷ []) k (sym w) (rw (← w)) (c .before .before .before .quad .ensures, omega arith, (rw f (c .before .quad2 .ensures), omega arith, tt)) 10 refl (omega arith) (c .before .before .before .before .before .before .before .before .before .before .if2 .left) in
     let e : at + 10 + 1 ≡ at + 11 = omega arith in
-    (omega arith, omega arith, rw e at l)
+    ((omega arith, omega arith, rw e at l), refl)
 
 pub look-gate-spec : {M : Type 1} → statement M
 look-gate-spec =

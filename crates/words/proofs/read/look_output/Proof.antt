@@ -68,7 +68,7 @@ returns-6 c =
     let k = kind-at text at 48 52 4 (omega arith) (c .before .before .before .before .if3 .left) (c .before .before .if4 .left) refl refl refl in
     let l = read-words text at 4 (c .before .quad .result ∷ []) k refl refl (c .before .quad .ensures, omega arith, tt) 6 refl (omega arith) (c .before .before .before .before .before .before .if2 .left) in
     let e : at + 6 + 1 ≡ at + 7 = omega arith in
-    (omega arith, omega arith, rw e at l)
+    ((omega arith, omega arith, rw e at l), refl)
 
 pub look-output-spec : {M : Type 1} → statement M
 look-output-spec =
