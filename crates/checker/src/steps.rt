@@ -7,7 +7,7 @@ use clause::gates::XOR_CLAUSES;
 use clause::gates::and_clause;
 use clause::gates::xor_clause;
 use clause::resolution::Outcome;
-use clause::resolution::resolve;
+use clause::saved::resolve_saved;
 use clause::store::save;
 use frame::Op;
 use netlist::Refusal;
@@ -179,7 +179,7 @@ pub fn resolve_step(
     if !is_clause(clauses, b) {
         return Stepped::Refused(Refusal { number: 9, line });
     }
-    let resolved = resolve(store, a - 1, b - 1, v);
+    let resolved = resolve_saved(store, a - 1, b - 1, v);
     let outcome = resolved.outcome;
     match outcome {
         Outcome::Missing => Stepped::Refused(Refusal { number: 10, line }),
