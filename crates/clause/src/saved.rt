@@ -1,6 +1,8 @@
-// The resolution step on two clauses as `save` leaves them, with zeros behind: each clause is copied without its pivot, and the copies are
-// merged with no branch on a literal. What is refused is left to `resolve`.
+// The resolution step (document 01, 'Steps') on two clauses as `save` leaves them, with zeros behind. Each is copied without its pivot, and the
+// copies are merged; no branch depends on which literals they hold, since such branches are mispredicted. A step that is refused is rare, and
+// is left to `resolve`.
 use crate::Clause;
+use crate::Literal;
 use crate::resolution::Outcome;
 use crate::resolution::Resolved;
 use crate::resolution::resolve;
@@ -10,17 +12,16 @@ ghost use Prim.Native.Nat.{_+_, _*_, _<_, _≤_};
 ghost use lib.ListN.{drop, getD, length, take};
 ghost use Rattle.model.specs.Limits.{clauseWidth};
 ghost use Rattle.model.specs.Clauses as model;
-ghost use Rattle.model.specs.Clauses.{holds, join, positive, negative};
-ghost use Rattle.clause.specs.Sets.{literalBound, headOf, Rising, Answers, Resolves, resolveOf, clauseIn, clauseAt, Saved, Copies};
-ghost use Rattle.clause.specs.Sets.{Holds};
+ghost use Rattle.model.specs.Clauses.{holds, join};
+ghost use Rattle.clause.specs.Sets.{literalBound, headOf, Rising, Holds, clauseIn, clauseAt, Saved, Copies, resolveOf, Resolves, Answers};
 
-// Behind the last literal of a copy: above every literal.
+// Past the end of a clause: above every literal, and above the pivots of every variable that can be in use.
 const END: u16 = 65535;
 
-// A copy of a clause without a literal: its literals, then END.
-const COPY_WIDTH: usize = 9;
+// A copy has END behind the last of eight literals too.
+const COPY_WIDTH: usize = Clause::WIDTH + 1;
 
-// The resolvent, or nothing: the step is not decided.
+// The clause counts only if the step is done.
 struct Attempt {
     done: bool,
     clause: Clause,
@@ -61,7 +62,7 @@ fn head(s: &[u16], i: usize) -> u16
     END
 }
 
-// Whether the clause of an eight holds a literal. All eight places are looked at, so that no branch depends on where it stands.
+// True only where the clause of an eight holds the literal. All places are looked at, so that no branch depends on where it stands.
 fn has(s: &[u16], l: u16) -> bool
     requires { ⌜ Saved (now s) × (l < literalBound) ⌝ }
     ensures { λ r. ⌜ (r ≡ true → holds l (clauseIn (now (s .entry))) ≡ true) ⌝ }
@@ -78,7 +79,7 @@ fn has(s: &[u16], l: u16) -> bool
     met
 }
 
-// The clause of an eight without a literal that it holds.
+// A copy of an eight's clause without a literal that it holds: each place below that literal stays, and each other takes the next.
 fn without(s: &[u16], l: u16) -> [u16; COPY_WIDTH]
     requires { ⌜ Saved (now s) × Rising (clauseIn (now s)) × (l < literalBound) × (holds l (clauseIn (now s)) ≡ true) ⌝ }
     ensures { λ r. ⌜ Copies r (model.without l (clauseIn (now (s .entry)))) × (getD r clauseWidth 0 ≡ literalBound) ⌝ }
@@ -132,12 +133,12 @@ fn merge(a: &[u16; COPY_WIDTH], b: &[u16; COPY_WIDTH]) -> Attempt
     }
 }
 
-// The step on two eights, unless a pivot is missing or the result is too long. A pivot is below END.
+// The step on two eights, unless it is to be refused.
 fn try_join(first: &[u16], second: &[u16], v: u16) -> Attempt
     requires { ⌜ Saved (now first) × Saved (now second) × Rising (clauseIn (now first)) × Rising (clauseIn (now second)) ⌝ }
     ensures { λ r. ⌜ (r .done ≡ true → Resolves (r .clause) v (clauseIn (now (first .entry))) (clauseIn (now (second .entry)))) ⌝ }
 {
-    if 32766 < v {
+    if Literal::HIGHEST_VARIABLE < v {
         return undecided();
     }
     let p = 2 * v;
@@ -153,7 +154,7 @@ fn try_join(first: &[u16], second: &[u16], v: u16) -> Attempt
     merge(&a, &b)
 }
 
-// What `resolve` answers, for eights as `save` leaves them.
+// What `resolve` answers, where both eights are as `save` leaves them.
 pub fn resolve_saved(store: &[u16], a: usize, b: usize, v: u16) -> Resolved
     requires { ⌜ (clauseWidth * a + clauseWidth ≤ length (now store)) × (clauseWidth * b + clauseWidth ≤ length (now store))
         × Rising (clauseAt (now store) a) × Rising (clauseAt (now store) b)
