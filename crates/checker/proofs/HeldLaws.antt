@@ -11,7 +11,8 @@ use Rattle.model.specs.Limits.{clauseWidth}
 use Rattle.model.specs.Clauses.{Clause, neg, insert, join, clauseOf, andClauses, xorClauses}
 use Rattle.laws.specs.Bools.{by-cond}
 use Rattle.model.specs.Checker.{stored, storedAll}
-use Rattle.clause.specs.Sets.{Rising, clauseIn, clauseAt, Saved}
+use Rattle.clause.specs.Sets.{Rising, clauseIn, clauseAt}
+use Rattle.saved.specs.Copies.{Saved}
 use Rattle.clause.proofs.StoreLaws.{stored-length, in-stored}
 use Rattle.clause.proofs.SetLaws.{Small, rising-clause}
 use Rattle.frame.specs.declared.Op.{Op}

@@ -1,4 +1,3 @@
 pub mod SetLaws
 pub mod MergeLaws
 pub mod StoreLaws
-pub mod SavedLaws

@@ -2,16 +2,14 @@
 use Prim.Native.Nat.{ℕ, zero, suc, _*_, _<_, _≤_}
 use mathlib.Core.Path.{_≡_}
 use mathlib.Core.List.{List, [], _∷_}
-use mathlib.Core.Bool.{true}
 use lib.Dec.{leb}
-use lib.ListN.{length, take, drop, getD}
+use lib.ListN.{length, take, drop}
 use Rattle.model.specs.Limits.{clauseWidth}
 use Rattle.model.specs.Answers.{Answer, guard}
 use Rattle.model.specs.Answers.Answer.{ok, refused}
 use Rattle.model.specs.Clauses as model
 use Rattle.model.specs.Clauses.{resolvent}
 use Rattle.model.specs.Steps.{canResolve}
-use Rattle.model.specs.Checker.{stored}
 use Rattle.clause.specs.declared.Clause.{Clause}
 use Rattle.clause.specs.declared.resolution.Outcome.{Outcome}
 use Rattle.clause.specs.declared.resolution.Outcome.the-variants.{Joined, Missing, TooLong}
@@ -57,15 +55,6 @@ clauseIn (suc x ∷ s) = x ∷ clauseIn s
 abbrev pub clauseAt : List ℕ → ℕ → model.Clause
 clauseAt store k = clauseIn (take clauseWidth (drop (clauseWidth * k) store))
 
--- an eight as a clause is put there, with zeros behind it
-pub record Saved (s : List ℕ) : Type 0 where
-  pub width : length s ≡ clauseWidth
-  pub same : s ≡ stored (clauseIn s)
-
--- nine numbers are the clause's literals, then the bound
-abbrev pub Copies : List ℕ → model.Clause → Type 0
-Copies l c = (k : ℕ) → k ≤ clauseWidth → getD l k 0 ≡ headOf (drop k c)
-
 -- past the end of a clause: above every literal and every pivot
 abbrev pub end : ℕ
 end = 131072
@@ -89,11 +78,6 @@ resolveOf v first second line =
     guard (canResolve v first second) 10 line
     (guard (leb (length (resolvent v first second)) clauseWidth) 11 line
     (ok (resolvent v first second)))
-
--- both pivots are there, and the struct holds the resolvent
-pub record Resolves (c : Clause) (v : ℕ) (first second : model.Clause) : Type 0 where
-  pub pivots : canResolve v first second ≡ true
-  pub held : Holds c (resolvent v first second)
 
 abbrev pub outcomeOf : Outcome → model.Clause → ℕ → Answer model.Clause
 outcomeOf Joined c line = ok c

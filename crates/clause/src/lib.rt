@@ -2,7 +2,6 @@
 // and equal ones stand once.
 pub mod gates; // the clauses that define an AND gate and an XOR gate
 pub mod resolution; // one resolution step on two clauses of the store
-pub mod saved; // the same step on clauses as they were put into the store
 pub mod store; // clauses put into the store
 
 ghost use mathlib.Core.Path.{_≡_};

@@ -13,7 +13,7 @@ use Rattle.checker.proofs.steps.resolve_step.Reads as reads
 use Rattle.checker.proofs.steps.resolve_step.Lts as lts
 use Rattle.checker.proofs.steps.is_clause.Reads as is-clause-reads
 use Rattle.checker.proofs.steps.push_resolvent.Reads as push-resolvent-reads
-use Rattle.clause.proofs.saved.resolve_saved.Reads as resolve-saved-reads
+use Rattle.saved.proofs.resolve_saved.Reads as resolve-saved-reads
 
 is-clause-requires : tie.Need-is-clause-requires
 is-clause-requires c κs = search needs

@@ -5,14 +5,14 @@ use mathlib.Core.List.{[], _∷_}
 use native.Mathlib.Omega.{arith}
 use denote.Ref.{now}
 use lib.ListN.{drop, drop-of-length-le}
 use Rattle.clause.specs.Sets.{clauseIn}
 use Rattle.clause.proofs.StoreLaws.{in-stop, in-more}
-use Rattle.clause.proofs.SavedLaws.{saved-from}
+use Rattle.saved.proofs.SavedLaws.{saved-from}
 use borrow.Author.Needs.{needs}
-use Rattle.clause.proofs.saved.head.Statement.{statement}
-use Rattle.clause.proofs.saved.head.Tie as tie
-use Rattle.clause.proofs.saved.head.Reads as reads
-use Rattle.clause.proofs.saved.head.Lts as lts
+use Rattle.saved.proofs.head.Statement.{statement}
+use Rattle.saved.proofs.head.Tie as tie
+use Rattle.saved.proofs.head.Reads as reads
+use Rattle.saved.proofs.head.Lts as lts
 
 mul-x : tie.Need-mul-x
 mul-x c = search needs

@@ -17,9 +17,10 @@ use Rattle.model.specs.Answers.{guard}
 use Rattle.model.specs.Answers.Answer.{ok}
 use Rattle.model.specs.Steps.{canResolve}
 use Rattle.model.specs.Clauses.{Clause, holds, without, join, resolvent}
-use Rattle.clause.specs.Sets.{literalBound, headOf, Rising, clauseIn, Saved, Resolves, resolveOf}
+use Rattle.clause.specs.Sets.{literalBound, headOf, Rising, clauseIn, resolveOf}
+use Rattle.saved.specs.Copies.{Saved, Resolves}
 use Rattle.clause.proofs.SetLaws.{by-order, holds-found, holds-more, without-found, without-more, join-left, join-right, join-both}
 use Rattle.clause.proofs.MergeLaws.{grow}
 
 -- ---- an eight as it is saved
 

@@ -1,11 +1,11 @@
 // The resolution step (document 01, 'Steps') on two clauses as `save` leaves them, with zeros behind. Each is copied without its pivot, and the
 // copies are merged; no branch depends on which literals they hold, since such branches are mispredicted. A step that is refused is rare, and
 // is left to `resolve`.
-use crate::Clause;
-use crate::Literal;
-use crate::resolution::Outcome;
-use crate::resolution::Resolved;
-use crate::resolution::resolve;
+use clause::Clause;
+use clause::Literal;
+use clause::resolution::Outcome;
+use clause::resolution::Resolved;
+use clause::resolution::resolve;
 ghost use mathlib.Core.Path.{_≡_};
 ghost use mathlib.Core.Bool.{true, false};
 ghost use Prim.Native.Nat.{_+_, _*_, _<_, _≤_};
@@ -13,7 +13,8 @@ ghost use lib.ListN.{drop, getD, length, take};
 ghost use Rattle.model.specs.Limits.{clauseWidth};
 ghost use Rattle.model.specs.Clauses as model;
 ghost use Rattle.model.specs.Clauses.{holds, join};
-ghost use Rattle.clause.specs.Sets.{literalBound, headOf, Rising, Holds, clauseIn, clauseAt, Saved, Copies, resolveOf, Resolves, Answers};
+ghost use Rattle.clause.specs.Sets.{literalBound, headOf, Rising, Holds, clauseIn, clauseAt, resolveOf, Answers};
+ghost use Rattle.saved.specs.Copies.{Saved, Copies, Resolves};
 
 // Past the end of a clause: above every literal, and above the pivots of every variable that can be in use.
 const END: u16 = 65535;

@@ -6,17 +6,17 @@ use native.Mathlib.Omega.{arith}
 use denote.Ref.{now}
 use borrow.Author.Tests.{not-false}
 use Rattle.model.specs.Clauses.{holds, positive, negative, resolvent}
 use Rattle.clause.specs.Sets.{clauseIn}
 use Rattle.clause.proofs.SetLaws.{rising-without}
 use borrow.Author.Needs.{needs}
-use Rattle.clause.proofs.saved.try_join.Statement.{statement}
-use Rattle.clause.proofs.saved.try_join.Tie as tie
-use Rattle.clause.proofs.saved.try_join.Reads as reads
-use Rattle.clause.proofs.saved.try_join.Lts as lts
-use Rattle.clause.proofs.saved.has.Reads as has-reads
-use Rattle.clause.proofs.saved.merge.Reads as merge-reads
-use Rattle.clause.proofs.saved.undecided.Reads as undecided-reads
-use Rattle.clause.proofs.saved.without.Reads as without-reads
+use Rattle.saved.proofs.try_join.Statement.{statement}
+use Rattle.saved.proofs.try_join.Tie as tie
+use Rattle.saved.proofs.try_join.Reads as reads
+use Rattle.saved.proofs.try_join.Lts as lts
+use Rattle.saved.proofs.has.Reads as has-reads
+use Rattle.saved.proofs.merge.Reads as merge-reads
+use Rattle.saved.proofs.undecided.Reads as undecided-reads
+use Rattle.saved.proofs.without.Reads as without-reads
 
 first-held : (c : tie.Else3) → holds (positive (c .before .before .before .before .before .before .before .args .v)) (clauseIn (now (c .before .before .before .before .before .before .before .args .first))) ≡ true
 first-held c = c .before .before .before .has .ensures (not-false _ (c .before .before .if2 .left))

@@ -3,15 +3,15 @@ use mathlib.Core.Path.{sym, ap, _∙_}
 use native.Mathlib.Omega.{arith}
 use lib.ListN.{length}
 use Rattle.model.specs.Answers.Answer.{ok}
 use Rattle.clause.proofs.StoreLaws.{eight-bounds}
-use Rattle.clause.proofs.SavedLaws.{resolved-answer}
+use Rattle.saved.proofs.SavedLaws.{resolved-answer}
 use borrow.Author.Needs.{needs}
-use Rattle.clause.proofs.saved.resolve_saved.Statement.{statement}
-use Rattle.clause.proofs.saved.resolve_saved.Tie as tie
-use Rattle.clause.proofs.saved.resolve_saved.Reads as reads
-use Rattle.clause.proofs.saved.resolve_saved.Lts as lts
+use Rattle.saved.proofs.resolve_saved.Statement.{statement}
+use Rattle.saved.proofs.resolve_saved.Tie as tie
+use Rattle.saved.proofs.resolve_saved.Reads as reads
+use Rattle.saved.proofs.resolve_saved.Lts as lts
 use Rattle.clause.proofs.resolution.resolve.Reads as resolve-reads
-use Rattle.clause.proofs.saved.try_join.Reads as try-join-reads
+use Rattle.saved.proofs.try_join.Reads as try-join-reads
 
 mul-first : tie.Need-mul-first
 mul-first c = search needs

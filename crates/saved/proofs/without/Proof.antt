@@ -10,15 +10,15 @@ use lib.ListN.{length, drop, getD, set, length-set}
 use lib.Seq.{getD-set-same, getD-set-other}
 use Rattle.model.specs.Limits.{clauseWidth}
 use Rattle.model.specs.Clauses as model
 use Rattle.clause.specs.Sets.{literalBound, headOf, clauseIn}
 use Rattle.clause.proofs.SetLaws.{by-order}
-use Rattle.clause.proofs.SavedLaws.{saved-width, place-out, place-taken, copy-more, copy-last}
-use Rattle.clause.proofs.saved.without.Statement.{statement}
-use Rattle.clause.proofs.saved.without.Tie as tie
-use Rattle.clause.proofs.saved.without.Reads as reads
-use Rattle.clause.proofs.saved.without.Lts as lts
-use Rattle.clause.proofs.saved.below.Reads as below-reads
-use Rattle.clause.proofs.saved.head.Reads as head-reads
+use Rattle.saved.proofs.SavedLaws.{saved-width, place-out, place-taken, copy-more, copy-last}
+use Rattle.saved.proofs.without.Statement.{statement}
+use Rattle.saved.proofs.without.Tie as tie
+use Rattle.saved.proofs.without.Reads as reads
+use Rattle.saved.proofs.without.Lts as lts
+use Rattle.saved.proofs.below.Reads as below-reads
+use Rattle.saved.proofs.head.Reads as head-reads
 
 abbrev Inv-loop : tie.InvT-loop
 Inv-loop s l literals₀ i₀ literals i =

@@ -7,13 +7,13 @@ use mathlib.Core.Bool.{true, true≢false}
 use denote.Ref.{now}
 use Rattle.model.specs.Limits.{clauseWidth}
 use Rattle.model.specs.Clauses.{holds}
 use Rattle.clause.specs.Sets.{clauseIn}
-use Rattle.clause.proofs.SavedLaws.{holds-at}
-use Rattle.clause.proofs.saved.has.Statement.{statement}
-use Rattle.clause.proofs.saved.has.Tie as tie
-use Rattle.clause.proofs.saved.has.Reads as reads
-use Rattle.clause.proofs.saved.has.Lts as lts
-use Rattle.clause.proofs.saved.head.Reads as head-reads
+use Rattle.saved.proofs.SavedLaws.{holds-at}
+use Rattle.saved.proofs.has.Statement.{statement}
+use Rattle.saved.proofs.has.Tie as tie
+use Rattle.saved.proofs.has.Reads as reads
+use Rattle.saved.proofs.has.Lts as lts
+use Rattle.saved.proofs.head.Reads as head-reads
 
 abbrev Inv-loop : tie.InvT-loop
 Inv-loop s l met₀ i₀ met i = (i ≤ clauseWidth) × (met ≡ true → holds l (clauseIn s) ≡ true)

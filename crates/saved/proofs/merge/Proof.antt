@@ -11,16 +11,17 @@ use lib.ListN.{length, take, drop, getD, length-set}
 use lib.Seq.{length-take-le}
 use Rattle.model.specs.Limits.{clauseWidth}
 use Rattle.model.specs.Clauses.{Clause, join}
-use Rattle.clause.specs.Sets.{literalBound, headOf, Rising, Copies}
+use Rattle.clause.specs.Sets.{literalBound, headOf, Rising}
+use Rattle.saved.specs.Copies.{Copies}
 use Rattle.clause.proofs.MergeLaws.{push}
-use Rattle.clause.proofs.SavedLaws.{Turn, turn-within, turn-least, turn-moves, merge-turn, merge-end}
-use Rattle.clause.proofs.saved.merge.Statement.{statement}
-use Rattle.clause.proofs.saved.merge.Tie as tie
-use Rattle.clause.proofs.saved.merge.Reads as reads
-use Rattle.clause.proofs.saved.merge.Lts as lts
-use Rattle.clause.proofs.saved.at_most.Reads as at-most-reads
-use Rattle.clause.proofs.saved.least.Reads as least-reads
-use Rattle.clause.proofs.saved.undecided.Reads as undecided-reads
+use Rattle.saved.proofs.SavedLaws.{Turn, turn-within, turn-least, turn-moves, merge-turn, merge-end}
+use Rattle.saved.proofs.merge.Statement.{statement}
+use Rattle.saved.proofs.merge.Tie as tie
+use Rattle.saved.proofs.merge.Reads as reads
+use Rattle.saved.proofs.merge.Lts as lts
+use Rattle.saved.proofs.at_most.Reads as at-most-reads
+use Rattle.saved.proofs.least.Reads as least-reads
+use Rattle.saved.proofs.undecided.Reads as undecided-reads
 
 abbrev Inv-loop : tie.InvT-loop
 Inv-loop a b literals₀ n₀ i₀ j₀ literals n i j =
