@@ -3,14 +3,14 @@
 -- keeps that what is done, then the join of what is left, is the join of both.
 use Prim.Native.Nat.{ℕ, zero, suc, _+_, _-_, _<_, _≤_}
 use mathlib.Core.Path.{_≡_, refl, sym, ap, _∙_}
-use mathlib.Core.Bool.{Bool, true, false, _&&_, _||_, or-true, true≢false}
+use mathlib.Core.Bool.{true, or-true, true≢false}
 use mathlib.Core.List.{List, [], _∷_, _++_, append-nil, map}
 use native.Mathlib.Numerals.{add-one}
 use native.Mathlib.Nat.{add-zero}
 use native.Mathlib.Omega.{arith}
 use borrow.Author.Tests.{le-leb}
 use lib.Dec.{eqb}
-use lib.ListN.{length, take, drop, getD, set, replicate, drop-of-length-le}
+use lib.ListN.{length, drop, getD, set, replicate, drop-of-length-le}
 use lib.Seq.{getD-set-same, getD-set-other}
 use Rattle.model.specs.Limits.{clauseWidth}
 use Rattle.model.specs.Answers.{guard}
@@ -18,7 +18,7 @@ use Rattle.model.specs.Answers.Answer.{ok}
 use Rattle.model.specs.Steps.{canResolve}
 use Rattle.model.specs.Clauses.{Clause, holds, without, join, resolvent}
 use Rattle.clause.specs.Sets.{literalBound, headOf, Rising, clauseIn, resolveOf}
-use Rattle.saved.specs.Copies.{Saved, Resolves}
+use Rattle.saved.specs.Copies.{Saved}
 use Rattle.clause.proofs.SetLaws.{by-order, holds-found, holds-more, without-found, without-more, join-left, join-right, join-both}
 use Rattle.clause.proofs.MergeLaws.{grow}
 
@@ -130,9 +130,12 @@ later-out l (suc k) x c r n h p =
 pub place-out : (l : ℕ) (c : Clause) → Rising c → holds l c ≡ true → (k : ℕ) → Without l k c
 place-out l [] r h k = none-held l h
 place-out l (x ∷ c) r h k =
+    let later : (x ≡ l → ⊥) → Without l k (x ∷ c) = λ n.
+    let held = holds-more {s = c} l x refl n ∙ h in
+    later-out l k x c r n held (place-out l c (r .1) held) in
     by-order x l
-    (λ n. later-out l k x c r (λ e. omega arith) (holds-more {s = c} l x refl (λ e. omega arith) ∙ h) (place-out l c (r .1) (holds-more {s = c} l x refl (λ e. omega arith) ∙ h)))
-    (λ n. later-out l k x c r (λ e. omega arith) (holds-more {s = c} l x refl (λ e. omega arith) ∙ h) (place-out l c (r .1) (holds-more {s = c} l x refl (λ e. omega arith) ∙ h)))
+    (λ o. later (λ e. omega arith))
+    (λ o. later (λ e. omega arith))
     (λ e. rw e (first-out l k c (omega (arith, r .0)) (r .1)))
 
 -- the number that a copy takes at place k, of the literal there and the next

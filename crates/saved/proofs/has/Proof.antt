@@ -4,7 +4,6 @@ use borrow.Author.Needs.{needs}
 use Prim.Native.Nat.{_≤_, _-_}
 use mathlib.Core.Path.{_≡_, sym, _∙_}
 use mathlib.Core.Bool.{true, true≢false}
-use denote.Ref.{now}
 use Rattle.model.specs.Limits.{clauseWidth}
 use Rattle.model.specs.Clauses.{holds}
 use Rattle.clause.specs.Sets.{clauseIn}

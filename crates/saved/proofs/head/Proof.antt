@@ -1,11 +1,8 @@
 -- The number at i is 0 behind the last literal, and else a literal plus one; behind the eighth nothing is left. In a saved eight this is the
 -- clause from i on.
-use mathlib.Core.Path.{_≡_, sym, _∙_}
-use mathlib.Core.List.{[], _∷_}
 use native.Mathlib.Omega.{arith}
 use denote.Ref.{now}
-use lib.ListN.{drop, drop-of-length-le}
-use Rattle.clause.specs.Sets.{clauseIn}
+use lib.ListN.{drop-of-length-le}
 use Rattle.clause.proofs.StoreLaws.{in-stop, in-more}
 use Rattle.saved.proofs.SavedLaws.{saved-from}
 use borrow.Author.Needs.{needs}

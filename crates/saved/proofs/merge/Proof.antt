@@ -2,16 +2,16 @@
 -- copy that has it (`merge-turn`), so at least one place moves, and none past the bound at the ninth.
 use native.Mathlib.Omega.{arith}
 use borrow.Author.Needs.{needs}
-use Prim.Native.Nat.{ℕ, _≤_, _<_, _+_, _-_, _*_}
+use Prim.Native.Nat.{ℕ, _≤_, _+_, _-_, _*_}
 use mathlib.Core.Path.{_≡_, refl, sym, ap, _∙_}
 use mathlib.Core.Bool.{true≢false}
-use mathlib.Core.List.{List, [], _∷_, _++_}
+use mathlib.Core.List.{_++_}
 use denote.Ref.{now}
 use lib.ListN.{length, take, drop, getD, length-set}
 use lib.Seq.{length-take-le}
 use Rattle.model.specs.Limits.{clauseWidth}
 use Rattle.model.specs.Clauses.{Clause, join}
-use Rattle.clause.specs.Sets.{literalBound, headOf, Rising}
+use Rattle.clause.specs.Sets.{Rising}
 use Rattle.saved.specs.Copies.{Copies}
 use Rattle.clause.proofs.MergeLaws.{push}
 use Rattle.saved.proofs.SavedLaws.{Turn, turn-within, turn-least, turn-moves, merge-turn, merge-end}
@@ -110,7 +110,6 @@ add-j c = omega (arith, right-within c)
 
 loop-less : tie.Need-loop-less Inv-loop μ-loop
 loop-less c =
-    let l = c .before .before .before .before .before .before .before .loop in
     omega (arith, turn-moves (turn c), left-within (c .before), right-within c)
 
 loop-again : tie.Need-loop-again Inv-loop μ-loop

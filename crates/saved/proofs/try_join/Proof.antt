@@ -1,5 +1,4 @@
 -- With both pivots there, the copies are the clauses without them, and their join is the resolvent.
-use Prim.Native.Nat.{_*_, _+_}
 use mathlib.Core.Path.{_≡_, sym, _∙_}
 use mathlib.Core.Bool.{true, true≢false}
 use native.Mathlib.Omega.{arith}

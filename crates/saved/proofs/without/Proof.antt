@@ -3,11 +3,10 @@
 use native.Mathlib.Omega.{arith}
 use borrow.Author.Needs.{needs}
 use Prim.Native.Nat.{ℕ, _≤_, _<_, _+_, _-_}
-use native.Mathlib.Numerals.{add-one}
-use mathlib.Core.Path.{_≡_, refl, sym, ap, _∙_}
+use mathlib.Core.Path.{_≡_, refl, sym, _∙_}
 use denote.Ref.{now}
-use lib.ListN.{length, drop, getD, set, length-set}
-use lib.Seq.{getD-set-same, getD-set-other}
+use lib.ListN.{length, drop, getD, length-set}
+use lib.Seq.{getD-set-other}
 use Rattle.model.specs.Limits.{clauseWidth}
 use Rattle.model.specs.Clauses as model
 use Rattle.clause.specs.Sets.{literalBound, headOf, clauseIn}
