@@ -1,6 +1,6 @@
 // The resolution step (document 01, 'Steps') on two clauses as `save` leaves them, with zeros behind. Each is copied without its pivot, and the
-// copies are merged; no branch depends on which literals they hold, since such branches are mispredicted. A step that is refused is rare, and
-// is left to `resolve`.
+// copies are merged. No branch asks where a pivot stands or which of two literals is lower, since such branches are mispredicted. A step that is
+// refused ends the proof, and is left to `resolve`.
 use clause::Clause;
 use clause::Literal;
 use clause::resolution::Outcome;
