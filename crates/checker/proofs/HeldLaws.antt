@@ -12,6 +12,7 @@ use Rattle.model.specs.Clauses.{Clause, neg, insert, join, clauseOf, andClauses
 use Rattle.laws.specs.Bools.{by-cond}
 use Rattle.model.specs.Checker.{stored, storedAll}
 use Rattle.clause.specs.Sets.{Rising, clauseIn, clauseAt}
+use Rattle.saved.specs.Copies.{Saved}
 use Rattle.clause.proofs.StoreLaws.{stored-length, in-stored}
 use Rattle.clause.proofs.SetLaws.{Small, rising-clause}
 use Rattle.frame.specs.declared.Op.{Op}
@@ -54,14 +55,25 @@ eight-at (c ∷ cs) p (suc k) h rest =
 pub held-split : (store : List ℕ) (cs : List Clause) → Held store cs → store ≡ storedAll cs ++ drop (clauseWidth * length cs) store
 held-split store cs h = sym (take-append-drop (clauseWidth * length cs) store) ∙ ap (λ (l : List ℕ). l ++ drop (clauseWidth * length cs) store) (h .same)
 
+-- eight k is as clause k is stored
+eight-held : (store : List ℕ) (cs : List Clause) → Held store cs → (k : ℕ) → k < length cs → take clauseWidth (drop (clauseWidth * k) store) ≡ stored (getD cs k [])
+eight-held store cs h k l =
+    ap (λ (t : List ℕ). take clauseWidth (drop (clauseWidth * k) t)) (held-split store cs h)
+    ∙ eight-at cs (h .proper) k l (drop (clauseWidth * length cs) store)
+
 pub clause-held : (store : List ℕ) (cs : List Clause) → Held store cs → (k : ℕ) → k < length cs → clauseAt store k ≡ getD cs k []
-clause-held store cs h k l =
-    ap (λ (t : List ℕ). clauseIn (take clauseWidth (drop (clauseWidth * k) t))) (held-split store cs h)
-    ∙ ap clauseIn (eight-at cs (h .proper) k l (drop (clauseWidth * length cs) store))
-    ∙ in-stored (getD cs k [])
+clause-held store cs h k l = ap clauseIn (eight-held store cs h k l) ∙ in-stored (getD cs k [])
 
 pub held-rising : (store : List ℕ) (cs : List Clause) → Held store cs → (k : ℕ) → k < length cs → Rising (clauseAt store k)
 held-rising store cs h k l = rw (clause-held store cs h k l) (proper-at cs k (h .proper) l .rising)
+
+pub held-saved : (store : List ℕ) (cs : List Clause) → Held store cs → (k : ℕ) → k < length cs → Saved (take clauseWidth (drop (clauseWidth * k) store))
+held-saved store cs h k l =
+    let e = eight-held store cs h k l in
+    record {
+      width = ap length e ∙ stored-length (getD cs k []) (proper-at cs k (h .proper) l .width);
+      same = e ∙ sym (ap stored (clause-held store cs h k l));
+    }
 
 -- ---- a clause more
 

@@ -7,10 +7,10 @@ use clause::gates::XOR_CLAUSES;
 use clause::gates::and_clause;
 use clause::gates::xor_clause;
 use clause::resolution::Outcome;
-use clause::resolution::resolve;
 use clause::store::save;
 use frame::Op;
 use netlist::Refusal;
+use saved::resolve_saved;
 ghost use mathlib.Core.Path.{_≡_};
 ghost use Prim.Native.Nat.{ℕ, _+_, _<_, _≤_};
 ghost use mathlib.Core.List.{List, [], _∷_, _++_};
@@ -179,7 +179,7 @@ pub fn resolve_step(
     if !is_clause(clauses, b) {
         return Stepped::Refused(Refusal { number: 9, line });
     }
-    let resolved = resolve(store, a - 1, b - 1, v);
+    let resolved = resolve_saved(store, a - 1, b - 1, v);
     let outcome = resolved.outcome;
     match outcome {
         Outcome::Missing => Stepped::Refused(Refusal { number: 10, line }),

@@ -61,7 +61,7 @@ below x s [] r h = head-below x s r
 below x s (y ∷ c) r h = h
 
 -- one literal moves from what is left to what is done
-grow : (o : Clause) {n r u : Clause} (s : Clause) (x : ℕ) → o ++ r ≡ u → r ≡ x ∷ s → n ≡ o ++ (x ∷ []) → n ++ s ≡ u
+pub grow : (o : Clause) {n r u : Clause} (s : Clause) (x : ℕ) → o ++ r ≡ u → r ≡ x ∷ s → n ≡ o ++ (x ∷ []) → n ++ s ≡ u
 grow o s x h e f = rw (f, append-assoc o (x ∷ []) s) (rw e at h)
 
 -- ---- the merge

@@ -5,7 +5,7 @@ use native.Mathlib.Omega.{arith}
 use denote.Ref.{now}
 use borrow.Author.Tests.{not-true, not-false}
 use Rattle.checker.proofs.StepLaws.{number, resolvent-rising, first-missing, second-missing, pivot-missing, too-wide, resolvent-added}
-use Rattle.checker.proofs.HeldLaws.{held-rising}
+use Rattle.checker.proofs.HeldLaws.{held-rising, held-saved}
 use borrow.Author.Needs.{needs}
 use Rattle.checker.proofs.steps.resolve_step.Statement.{statement}
 use Rattle.checker.proofs.steps.resolve_step.Tie as tie
@@ -13,7 +13,7 @@ use Rattle.checker.proofs.steps.resolve_step.Reads as reads
 use Rattle.checker.proofs.steps.resolve_step.Lts as lts
 use Rattle.checker.proofs.steps.is_clause.Reads as is-clause-reads
 use Rattle.checker.proofs.steps.push_resolvent.Reads as push-resolvent-reads
-use Rattle.clause.proofs.resolution.resolve.Reads as resolve-reads
+use Rattle.saved.proofs.resolve_saved.Reads as resolve-saved-reads
 
 is-clause-requires : tie.Need-is-clause-requires
 is-clause-requires c κs = search needs
@@ -31,14 +31,14 @@ returns-2 c s t =
     let a = c .before .before .before .before .before .args in
     second-missing (a .room) (a .line) s (a .a) (a .b) (a .v) (rw (t .clauses) (sym (c .before .is-clause2 .ensures) ∙ not-true _ (c .if2 .taken)))
 
-sub-resolve : tie.Need-sub-resolve
-sub-resolve c = number _ _ (sym (c .before .before .before .before .is-clause .ensures) ∙ not-false _ (c .before .before .before .if1 .left)) .0
+sub-resolve-saved : tie.Need-sub-resolve-saved
+sub-resolve-saved c = number _ _ (sym (c .before .before .before .before .is-clause .ensures) ∙ not-false _ (c .before .before .before .if1 .left)) .0
 
-sub-resolve-2 : tie.Need-sub-resolve-2
-sub-resolve-2 c = number _ _ (sym (c .before .before .is-clause2 .ensures) ∙ not-false _ (c .before .if2 .left)) .0
+sub-resolve-saved-2 : tie.Need-sub-resolve-saved-2
+sub-resolve-saved-2 c = number _ _ (sym (c .before .before .is-clause2 .ensures) ∙ not-false _ (c .before .if2 .left)) .0
 
-resolve-requires : tie.Need-resolve-requires
-resolve-requires c κs =
+resolve-saved-requires : tie.Need-resolve-saved-requires
+resolve-saved-requires c κs =
     let a = c .before .before .before .before .before .before .args in
     let w = c .before .before .before .before .before .before .pre in
     let na = number (a .p .clauses) (a .a) (sym (c .before .before .before .before .is-clause .ensures) ∙ not-false _ (c .before .before .before .if1 .left)) in
@@ -47,6 +47,8 @@ resolve-requires c κs =
       omega (arith, w .numbers-for-all, w .clauses),
       held-rising (now (a .store)) (w .state .clauses) (w .tracks .held) (a .a - 1) (omega (arith, w .tracks .clauses)),
       held-rising (now (a .store)) (w .state .clauses) (w .tracks .held) (a .b - 1) (omega (arith, w .tracks .clauses)),
+      held-saved (now (a .store)) (w .state .clauses) (w .tracks .held) (a .a - 1) (omega (arith, w .tracks .clauses)),
+      held-saved (now (a .store)) (w .state .clauses) (w .tracks .held) (a .b - 1) (omega (arith, w .tracks .clauses)),
     )
 
 enum-told : tie.Need-enum-told
@@ -64,7 +66,7 @@ push-resolvent-requires c κs =
     let w = c .before .before .before .before .before .before .before .before .before .before .pre in
     let na = number (a .p .clauses) (a .a) (sym (c .before .before .before .before .before .before .before .before .is-clause .ensures) ∙ not-false _ (c .before .before .before .before .before .before .before .if1 .left)) in
     let nb = number (a .p .clauses) (a .b) (sym (c .before .before .before .before .before .before .is-clause2 .ensures) ∙ not-false _ (c .before .before .before .before .before .if2 .left)) in
-    let r = c .before .before .before .resolve in (
+    let r = c .before .before .before .resolve-saved in (
       w,
       r .ensures .room,
       r .ensures .size,
@@ -80,7 +82,7 @@ same-length c = search needs
 returns-3 : tie.Need-returns-3
 returns-3 c s t =
     let a = c .before .before .before .before .before .before .before .before .before .args in
-    let r = c .before .before .resolve in
+    let r = c .before .before .resolve-saved in
     pivot-missing (a .room) (a .line) s (a .a) (a .b) (a .v) t
     (rw (t .clauses) (sym (c .before .before .before .before .before .before .before .is-clause .ensures) ∙ not-false _ (c .before .before .before .before .before .before .if1 .left)))
     (rw (t .clauses) (sym (c .before .before .before .before .before .is-clause2 .ensures) ∙ not-false _ (c .before .before .before .before .if2 .left)))
@@ -92,7 +94,7 @@ same-length-2 c = search needs
 returns-4 : tie.Need-returns-4
 returns-4 c s t =
     let a = c .before .before .before .before .before .before .before .before .before .args in
-    let r = c .before .before .resolve in
+    let r = c .before .before .resolve-saved in
     too-wide (a .room) (a .line) s (a .a) (a .b) (a .v) t
     (rw (t .clauses) (sym (c .before .before .before .before .before .before .before .is-clause .ensures) ∙ not-false _ (c .before .before .before .before .before .before .if1 .left)))
     (rw (t .clauses) (sym (c .before .before .before .before .before .is-clause2 .ensures) ∙ not-false _ (c .before .before .before .before .if2 .left)))
@@ -104,7 +106,7 @@ same-length-3 c = search needs
 returns-5 : tie.Need-returns-5
 returns-5 c s t =
     let a = c .before .before .before .before .before .before .before .before .before .before .before .before .before .args in
-    let r = c .before .before .before .before .before .before .resolve in
+    let r = c .before .before .before .before .before .before .resolve-saved in
     let q = c .before .before .push-resolvent in
     rw (
     resolvent-added (a .room) (a .line) s (a .a) (a .b) (a .v) t
@@ -121,9 +123,9 @@ resolve-step-spec =
     returns
     is-clause-requires-2
     returns-2
-    sub-resolve
-    sub-resolve-2
-    resolve-requires
+    sub-resolve-saved
+    sub-resolve-saved-2
+    resolve-saved-requires
     enum-told
     enum-told-2
     enum-told-3
