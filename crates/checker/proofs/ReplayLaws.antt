@@ -6,6 +6,7 @@ use mathlib.Core.List.{List, [], _∷_}
 use types.Run.{OneOf, miss}
 use denote.Enum.Declared.{tagOf}
 use lib.Dec.{eqb}
+use lib.ListN.{length}
 use Rattle.model.specs.Answers.{Answer, guard, bind}
 use Rattle.model.specs.Answers.Answer.{ok, refused}
 use Rattle.model.specs.Lines as model
@@ -22,11 +23,15 @@ use Rattle.frame.specs.declared.Frame.the-variants.{Header, Gate, Output, Resol
 use Rattle.frame.specs.declared.Line.{Line}
 use Rattle.frame.specs.declared.Line.the-variants.{Read, End, Refused}
 use Rattle.frame.specs.declared.Cursor.{Cursor}
-use Rattle.frame.specs.Frames.{frameOf, first, firstOf}
+use Rattle.frame.specs.Frames.{frameOf, first, firstOf, Inside}
 use Rattle.frame.proofs.FirstLaws.{first-none, first-fault, first-found}
 use Rattle.netlist.specs.Says.{from}
 use Rattle.checker.specs.declared.steps.Progress.{Progress}
+use Rattle.netlist.specs.declared.Refusal.{Refusal}
+use Rattle.checker.specs.declared.steps.Stepped.the-variants as stepped-case
+use Rattle.checker.specs.declared.steps.Stepped.the-variants.{Done}
 use Rattle.checker.specs.Progress.{extension, frameStep, endedOf, Tracks, Within, Says}
+use Rattle.checker.specs.Replays.{RanTo}
 
 -- ---- the step of a frame
 
@@ -60,7 +65,7 @@ unfolding guard
 by-frame room line s true f go = refl
 by-frame room line s false f go = refl
 
-pub replay-read : (room : ℕ) (s : State) (text : List ℕ) (c : Cursor) (got : Line) → firstOf text got ≡ first (from text c) (c .line) → (f : Frame) (next : Cursor)
+replay-read : (room : ℕ) (s : State) (text : List ℕ) (c : Cursor) (got : Line) → firstOf text got ≡ first (from text c) (c .line) → (f : Frame) (next : Cursor)
     → got ≡ Read f next
     → replay room s (from text c) (c .line) ≡ bind (frameStep room (c .line) s (frameOf f)) (λ s′. replay room s′ (from text next) (next .line))
 unfolding replay stepAt dueAt frameStep
@@ -81,19 +86,55 @@ replay-ended room s text c (Refused number place) e k store p t w =
 
 -- ---- the loop
 
--- the lines up to a cursor are replayed
-pub record Replayed (room : ℕ) (text : List ℕ) (c₀ : Cursor) (s₀ : State) (store : List ℕ) (c : Cursor) (p : Progress) : Type 0 where
-  pub state : State
-  pub tracks : Tracks store p state
-  pub same : replay room s₀ (from text c₀) (c₀ .line) ≡ replay room state (from text c) (c .line)
-
 -- what a line's answer says of the whole
-pub replay-step : (room : ℕ) (s : State) (text : List ℕ) (c : Cursor) (got : Line) → firstOf text got ≡ first (from text c) (c .line) → (f : Frame) (next : Cursor)
+replay-step : (room : ℕ) (s : State) (text : List ℕ) (c : Cursor) (got : Line) → firstOf text got ≡ first (from text c) (c .line) → (f : Frame) (next : Cursor)
     → got ≡ Read f next → (s′ : State) → frameStep room (c .line) s (frameOf f) ≡ ok s′
     → replay room s (from text c) (c .line) ≡ replay room s′ (from text next) (next .line)
 replay-step room s text c got e f next is s′ a = replay-read room s text c got e f next is ∙ rw a
 
-pub replay-refused : (room : ℕ) (s : State) (text : List ℕ) (c : Cursor) (got : Line) → firstOf text got ≡ first (from text c) (c .line) → (f : Frame) (next : Cursor)
+replay-refused : (room : ℕ) (s : State) (text : List ℕ) (c : Cursor) (got : Line) → firstOf text got ≡ first (from text c) (c .line) → (f : Frame) (next : Cursor)
     → got ≡ Read f next → (number line : ℕ) → frameStep room (c .line) s (frameOf f) ≡ refused number line
     → replay room s (from text c) (c .line) ≡ refused number line
 replay-refused room s text c got e f next is number line a = replay-read room s text c got e f next is ∙ rw a
+
+-- ---- lines replayed so far
+
+pub ran-none : {room : ℕ} {text : List ℕ} {c : Cursor} {store : List ℕ} {p : Progress} → Inside text c → Within store p room → RanTo room text c store p store c p
+ran-none i w = record { inside = i; within = w; long = refl; from-all = λ s t. record { state = s; tracks = t; same = refl } }
+
+module _ {room : ℕ} {text : List ℕ} {c₀ : Cursor} {store₀ : List ℕ} {p₀ : Progress} {store : List ℕ} {c : Cursor} {p : Progress} (r : RanTo room text c₀ store₀ p₀ store c p) where
+  -- and then others
+  pub ran-joined : {store′ : List ℕ} {c′ : Cursor} {p′ : Progress} → RanTo room text c store p store′ c′ p′ → RanTo room text c₀ store₀ p₀ store′ c′ p′
+  ran-joined q =
+      record {
+        inside = q .inside;
+        within = q .within;
+        long = q .long ∙ r .long;
+        from-all = λ s t.
+            let a = r .from-all s t in
+            let b = q .from-all (a .state) (a .tracks) in
+            record { state = b .state; tracks = b .tracks; same = a .same ∙ b .same };
+      }
+
+  -- or a refusal
+  pub ran-refused : (number line : ℕ) → ((s : State) → Tracks store p s → replay room s (from text c) (c .line) ≡ refused number line)
+      → (s : State) → Tracks store₀ p₀ s → replay room s (from text c₀) (c₀ .line) ≡ refused number line
+  ran-refused number line f s t = let a = r .from-all s t in a .same ∙ f (a .state) (a .tracks)
+
+-- one line: its step is done, or is refused
+module _ (room : ℕ) (text : List ℕ) (c : Cursor) (got : Line) (e : firstOf text got ≡ first (from text c) (c .line)) (f : Frame) (next : Cursor) (is : got ≡ Read f next) (store : List ℕ) (p : Progress) where
+  pub ran-line : (store′ : List ℕ) (q : Progress) → Inside text next → Within store p room → length store′ ≡ length store
+      → ((s : State) → Tracks store p s → Says room (frameStep room (c .line) s (frameOf f)) store′ (Done q)) → RanTo room text c store p store′ next q
+  ran-line store′ q i w n step =
+      record {
+        inside = i;
+        within = step (w .state) (w .tracks) .3;
+        long = n;
+        from-all = λ s t.
+            let k = step s t in
+            record { state = k .0; tracks = k .2; same = replay-step room s text c got e f next is (k .0) (k .1) };
+      }
+
+  pub line-refused : (x : Refusal) (store′ : List ℕ) → ((s : State) → Tracks store p s → Says room (frameStep room (c .line) s (frameOf f)) store′ (stepped-case.Refused x))
+      → (s : State) → Tracks store p s → replay room s (from text c) (c .line) ≡ refused (x .number) (x .line)
+  line-refused x store′ step s t = replay-refused room s text c got e f next is (x .number) (x .line) (step s t)

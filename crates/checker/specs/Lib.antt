@@ -1,3 +1,4 @@
 pub mod Progress
 pub mod Miters
 pub mod Verdicts
+pub mod Replays

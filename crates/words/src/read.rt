@@ -48,7 +48,7 @@ fn quad(text: &[u8], at: usize) -> u32
 }
 
 // Kind 11.
-fn look_resolve(text: &[u8], at: usize) -> Look
+pub fn look_resolve(text: &[u8], at: usize) -> Look
     requires { ⌜ at ≤ length (now text) ⌝ }
     ensures { λ r. ⌜ Looked (now (text .entry)) at r ⌝ }
 {
@@ -183,15 +183,6 @@ fn looked(look: Look, text: &[u8], cursor: Cursor) -> Line
         ),
         Look::Other => read_line(text, cursor),
     }
-}
-
-// `read_line`, quicker for a resolve.
-pub fn resolve_line(text: &[u8], cursor: Cursor) -> Line
-    requires { ⌜ Inside (now text) cursor ⌝ }
-    ensures reads { λ r. ⌜ firstOf (now (text .entry)) r ≡ first (lines (drop (cursor .at) (now (text .entry)))) (cursor .line) ⌝ }
-    ensures ahead { λ r. ⌜ Ahead (now (text .entry)) (cursor .at) r ⌝ }
-{
-    looked(look_resolve(text, cursor.at), text, cursor)
 }
 
 // `read_line`, quicker for a gate.
