@@ -2,7 +2,7 @@
 // checking program, or one report frame with the refusal.
 mod evidence; // the evidence for a stream
 
-use emit::lines::LINE_BYTES;
+use derive::lines::LINE_BYTES;
 use engine::Proved;
 use evidence::evidence;
 use frame::report::report_line;

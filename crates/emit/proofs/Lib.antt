@@ -1,8 +1,4 @@
 -- The laws; rt itself finds the proof of each function by its place.
-pub mod CaseLaws
-pub mod EmitLaws
-pub mod LineLaws
-pub mod SubstLaws
 pub mod NormalLaws
 pub mod OutputLaws
 pub mod PassLaws

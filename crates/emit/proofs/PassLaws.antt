@@ -28,12 +28,12 @@ use Rattle.emit_laws.specs.Emit.{startLinks, gateLines, lastTree, emit}
 use Rattle.netlist.specs.Again.{noGate}
 use Rattle.table.specs.Rows.{rowWidth, Holds}
 use Rattle.table.specs.Links.{linkWidth, Keeps}
+use Rattle.derive.specs.declared.gates.Defined.{Defined}
+use Rattle.derive.specs.declared.lines.Derived.{Derived}
+use Rattle.derive.specs.declared.kept.Kept.{Kept}
+use Rattle.derive.specs.Emission.{Written, Emits, EmitsAll}
+use Rattle.derive.specs.Known.{Known, Next, literalsOf, numbersOf, keptOf}
 use Rattle.emit.specs.declared.pass.Passed.{Passed}
-use Rattle.emit.specs.declared.gates.Defined.{Defined}
-use Rattle.emit.specs.declared.lines.Derived.{Derived}
-use Rattle.emit.specs.declared.kept.Kept.{Kept}
-use Rattle.emit.specs.Emission.{Written, Emits, EmitsAll}
-use Rattle.emit.specs.Known.{Known, Next, literalsOf, numbersOf, keptOf}
 use Rattle.emit.specs.Pass.{EmitsGate, Adds, GateDone, AllDone, gatesDone, settledOdd, settledTrees}
 
 -- ---- the numbers of a gate

@@ -1,4 +1,1 @@
-pub mod Emission
-pub mod Known
-pub mod Parts
 pub mod Pass

@@ -18,12 +18,12 @@ use Rattle.emit_laws.specs.Loop as model
 use Rattle.emit_laws.specs.Loop.{slots, sign, gateTrees, loop}
 use Rattle.emit_laws.specs.Emit.{startLinks, emit}
 use Rattle.table.specs.Links.{linkWidth}
-use Rattle.emit.specs.declared.lines.Derived.{Derived}
-use Rattle.emit.specs.declared.kept.Kept.{Kept}
-use Rattle.emit.specs.declared.gates.Defined.{Defined}
+use Rattle.derive.specs.declared.lines.Derived.{Derived}
+use Rattle.derive.specs.declared.kept.Kept.{Kept}
+use Rattle.derive.specs.declared.gates.Defined.{Defined}
+use Rattle.derive.specs.Emission.{Written}
+use Rattle.derive.specs.Known.{Known, literalsOf, numbersOf, keptOf}
 use Rattle.emit.specs.declared.pass.Passed.{Passed}
-use Rattle.emit.specs.Emission.{Written}
-use Rattle.emit.specs.Known.{Known, literalsOf, numbersOf, keptOf}
 
 -- the lines of a gate's trees, and the numbers to be kept of it: two links are exchanged where the trees were made for the odd literal
 pub record EmitsGate (p : List ℕ) (s : Derived) (q : List ℕ) (r : Kept) (turned : Bool) (ts : List Tree) : Type 0 where

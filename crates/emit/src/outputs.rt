@@ -1,9 +1,9 @@
 // The outputs: each z is false, then each w, down to the empty clause.
-use crate::lines::Derived;
-use crate::lines::cut;
-use crate::subst::subst2;
 use checker::both::outputs_of;
 use clause::Literal;
+use derive::lines::Derived;
+use derive::lines::cut;
+use derive::subst::subst2;
 use netlist::Pair;
 use table::rows::representative;
 ghost use mathlib.Core.Path.{_≡_};
@@ -21,8 +21,8 @@ ghost use Rattle.emit_laws.specs.Place.{firstZClause};
 ghost use Rattle.emit_laws.specs.Outputs.{outTree};
 ghost use Rattle.emit_laws.specs.Emit.{lastTree};
 ghost use Rattle.checker.specs.Miters.{Lists};
-ghost use Rattle.emit.specs.Emission.{Room, Few, Emits};
-ghost use Rattle.emit.specs.Known.{Known};
+ghost use Rattle.derive.specs.Emission.{Room, Few, Emits};
+ghost use Rattle.derive.specs.Known.{Known};
 
 // ¬z, from the clauses of z, the XOR of x and y, which begin with number k.
 fn out(work: &[u16], start: usize, proof: &mut [u8], at: Derived, k: u16, x: u16, y: u16) -> Derived

@@ -1,16 +1,16 @@
 // All gates of both lists, one after the other, and then the outputs.
-use crate::ands::and_gate;
 use crate::begin::behind;
 use crate::begin::first_z_clause;
 use crate::begin::start_links;
-use crate::gates::Defined;
-use crate::gates::normal_and;
-use crate::gates::normal_xor;
-use crate::kept::Kept;
-use crate::lines::Derived;
+use crate::normal::normal_and;
+use crate::normal::normal_xor;
 use crate::outputs::outputs;
-use crate::xors::xor_gate;
 use checker::both::gate_of;
+use derive::ands::and_gate;
+use derive::gates::Defined;
+use derive::kept::Kept;
+use derive::lines::Derived;
+use derive::xors::xor_gate;
 use frame::Op;
 use netlist::Pair;
 use netlist::again::Gate;
@@ -32,8 +32,8 @@ ghost use Rattle.netlist.specs.Again.{opOf, gateMeant};
 ghost use Rattle.table.specs.Rows.{Holds};
 ghost use Rattle.table.specs.Links.{linkWidth};
 ghost use Rattle.checker.specs.Miters.{Lists};
-ghost use Rattle.emit.specs.Emission.{Written, Room, FewKept, EmitsAll};
-ghost use Rattle.emit.specs.Known.{Known, Next, literalsOf};
+ghost use Rattle.derive.specs.Emission.{Written, Room, FewKept, EmitsAll};
+ghost use Rattle.derive.specs.Known.{Known, Next, literalsOf};
 ghost use Rattle.emit.specs.Pass.{EmitsGate, GateDone, AllDone, linesOf, PassRoom, FewPassed, settledOdd, settledTrees};
 
 // Where the proof ends: its lines, how many clauses there are then, and the number of the next gate's first clause.

@@ -26,7 +26,7 @@ use Rattle.checker.proofs.VerdictLaws.{lists-of}
 use Rattle.engine.specs.declared.Proved.{Proved}
 use Rattle.engine.specs.declared.Proved.the-variants as proved
 use Rattle.checker.specs.Miters as miters
-use Rattle.emit.specs.Emission.{Written}
+use Rattle.derive.specs.Emission.{Written}
 use Rattle.engine.specs.Replies.{listsOf, due, FoldedSays, AnswerSays}
 
 -- ---- two lists

@@ -2,7 +2,7 @@
 // same folded form. The first pass folds, the outputs are compared, and the second pass writes the proof.
 use checker::clearing::clear_from;
 use checker::verdict::refusal;
-use emit::lines::LINE_BYTES;
+use derive::lines::LINE_BYTES;
 use emit::pass::emit;
 use fold::pass::first_apart;
 use fold::pass::fold;

@@ -1,11 +1,11 @@
 -- A cut, ¬z, and a cut of the two: the lines of the tree in its order.
 use borrow.Author.Needs.{needs}
-use Rattle.emit.proofs.EmitLaws.{emits-cut}
+use Rattle.derive.proofs.EmitLaws.{emits-cut}
 use Rattle.emit.proofs.outputs.next_out.Statement.{statement}
 use Rattle.emit.proofs.outputs.next_out.Tie as tie
 use Rattle.emit.proofs.outputs.next_out.Reads as reads
 use Rattle.emit.proofs.outputs.next_out.Lts as lts
-use Rattle.emit.proofs.lines.cut.Reads as cut-reads
+use Rattle.derive.proofs.lines.cut.Reads as cut-reads
 use Rattle.emit.proofs.outputs.out.Reads as out-reads
 
 add-cut : tie.Need-add-cut

@@ -4,15 +4,15 @@ use native.Mathlib.Omega.{arith}
 use borrow.Author.Needs.{needs}
 use Rattle.emit_laws.specs.Gates.{linkOf}
 use Rattle.fold_laws.specs.Table.{repOf}
-use Rattle.emit.proofs.EmitLaws.{emits-cut}
+use Rattle.derive.proofs.EmitLaws.{emits-cut}
 use Rattle.emit.proofs.OutputLaws.{out-false, out-true, out-both}
 use Rattle.emit.proofs.outputs.out.Statement.{statement}
 use Rattle.emit.proofs.outputs.out.Tie as tie
 use Rattle.emit.proofs.outputs.out.Reads as reads
 use Rattle.emit.proofs.outputs.out.Lts as lts
 use Rattle.clause.proofs.Literal.complement.Reads as complement-reads
-use Rattle.emit.proofs.lines.cut.Reads as cut-reads
-use Rattle.emit.proofs.subst.subst2.Reads as subst2-reads
+use Rattle.derive.proofs.lines.cut.Reads as cut-reads
+use Rattle.derive.proofs.subst.subst2.Reads as subst2-reads
 use Rattle.table.proofs.rows.representative.Reads as representative-reads
 
 representative-requires : tie.Need-representative-requires

@@ -10,7 +10,7 @@ use Rattle.fold_laws.specs.Entries.{length-table}
 use Rattle.fold_laws.specs.Engine.{bothTable}
 use Rattle.emit_laws.specs.Emit.{startLinks}
 use Rattle.table.specs.Links.{Keeps}
-use Rattle.emit.specs.Known.{Known}
+use Rattle.derive.specs.Known.{Known}
 use Rattle.emit.specs.declared.pass.Passed.{Passed}
 use Rattle.emit.proofs.PassLaws.{known-first, emitted}
 use Rattle.checker.proofs.MiterLaws.{few-left, few-right}

@@ -11,7 +11,7 @@ use Rattle.laws.specs.MiterOrder.{length-gates}
 use Rattle.fold_laws.specs.Table.{Entry}
 use Rattle.emit_laws.specs.Emit.{startLinks}
 use Rattle.checker.specs.Miters.{Lists}
-use Rattle.emit.specs.Known.{Known}
+use Rattle.derive.specs.Known.{Known}
 use Rattle.emit.proofs.PassLaws.{UpTo, up-to-none, up-to-next, reads-done, up-to-all}
 use borrow.Author.Needs.{needs}
 use Rattle.emit.proofs.pass.gates.Statement.{statement}

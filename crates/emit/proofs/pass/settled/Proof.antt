@@ -7,11 +7,11 @@ use Rattle.emit.proofs.pass.settled.Statement.{statement}
 use Rattle.emit.proofs.pass.settled.Tie as tie
 use Rattle.emit.proofs.pass.settled.Reads as reads
 use Rattle.emit.proofs.pass.settled.Lts as lts
-use Rattle.emit.proofs.ands.and_gate.Reads as and-gate-reads
-use Rattle.emit.proofs.gates.normal_and.Reads as normal-and-reads
-use Rattle.emit.proofs.gates.normal_xor.Reads as normal-xor-reads
+use Rattle.derive.proofs.ands.and_gate.Reads as and-gate-reads
+use Rattle.derive.proofs.xors.xor_gate.Reads as xor-gate-reads
+use Rattle.emit.proofs.normal.normal_and.Reads as normal-and-reads
+use Rattle.emit.proofs.normal.normal_xor.Reads as normal-xor-reads
 use Rattle.emit.proofs.pass.slotted.Reads as slotted-reads
-use Rattle.emit.proofs.xors.xor_gate.Reads as xor-gate-reads
 
 enum-told : tie.Need-enum-told
 enum-told c = search needs

@@ -1,0 +1,90 @@
+-- A gate that represents itself has its clauses, any other two links to the gate of its key, which is done (`hit-done`).
+use mathlib.Core.Path.{_≡_, sym, _∙_}
+use Prim.Native.Nat.{_<_}
+use native.Mathlib.Omega.{arith}
+use lib.ListN.{length}
+use borrow.Author.Tests.{eq-eqb, ne-eqb}
+use Rattle.model.specs.Nets.{netOf}
+use Rattle.fold_laws.specs.Table.{repOf}
+use Rattle.emit_laws.specs.CaseTrees.{andTrees}
+use Rattle.derive.proofs.EmitLaws.{few-then, few-kept, few-more, emits-two}
+use Rattle.derive.proofs.CaseLaws.{hit-done}
+use borrow.Author.Needs.{needs}
+use Rattle.derive.proofs.ands.and_pair.Statement.{statement}
+use Rattle.derive.proofs.ands.and_pair.Tie as tie
+use Rattle.derive.proofs.ands.and_pair.Reads as reads
+use Rattle.derive.proofs.ands.and_pair.Lts as lts
+use Rattle.derive.proofs.ands.and_down.Reads as and-down-reads
+use Rattle.derive.proofs.ands.and_own.Reads as and-own-reads
+use Rattle.derive.proofs.ands.and_up.Reads as and-up-reads
+use Rattle.derive.proofs.kept.two.Reads as two-reads
+use Rattle.table.proofs.rows.representative.Reads as representative-reads
+
+representative-requires : tie.Need-representative-requires
+representative-requires c κs = search needs
+
+and-own-requires : tie.Need-and-own-requires
+and-own-requires c κs = search needs
+
+same-length : tie.Need-same-length
+same-length c = search needs
+
+returns : tie.Need-returns
+unfolding andTrees
+returns c =
+    let own = c .before .before in
+    let test = own .before .before in
+    let known = test .before .before in
+    let start = known .before .before .before in
+    let n = start .args .d .n in (
+      few-more (own .and-own .ensures .0) (omega arith),
+      λ t links k h. rw (eq-eqb (repOf t n) n (sym (known .representative .ensures t (k .rows) (omega arith)) ∙ test .if1 .taken)) (own .and-own .ensures .1 t links k h),
+    )
+
+cast-u : tie.Need-cast-u
+cast-u c = search needs
+
+and-down-requires : tie.Need-and-down-requires
+and-down-requires c κs = search needs
+
+and-up-requires : tie.Need-and-up-requires
+and-up-requires c κs = search needs
+
+two-requires : tie.Need-two-requires
+two-requires c κs = search needs
+
+same-length-2 : tie.Need-same-length-2
+same-length-2 c = search needs
+
+returns-2 : tie.Need-returns-2
+unfolding andTrees
+returns-2 c =
+    let up = c .before .before .before in
+    let down = up .before .before .before .before in
+    let test = down .before .before in
+    let known = test .before .before in
+    let start = known .before .before .before in
+    let d = start .args .d in (
+      few-kept (few-then (down .and-down .ensures .0) (up .and-up .ensures .0)) (c .two .ensures),
+      λ t links k h.
+          let e = known .representative .ensures t (k .rows) (omega arith) in
+          let other : repOf t (d .n) ≡ d .n → ⊥ = λ z. test .if1 .left (e ∙ z) in
+          let done : netOf (known .representative .result) < length links = rw e (hit-done d k h other) in
+          rw (ne-eqb (repOf t (d .n)) (d .n) other)
+          (emits-two (rw e at (down .and-down .ensures .1 t links k h done)) (rw e at (up .and-up .ensures .1 t links k h done)) (c .two .ensures)),
+    )
+
+pub and-pair-spec : {M : Type 1} → statement M
+and-pair-spec =
+    tie.close
+    (tie.spec
+    representative-requires
+    and-own-requires
+    same-length
+    returns
+    cast-u
+    and-down-requires
+    and-up-requires
+    two-requires
+    same-length-2
+    returns-2)

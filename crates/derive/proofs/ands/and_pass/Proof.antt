@@ -1,0 +1,60 @@
+-- The links of the gate and of its complement, the second over complemented operands.
+use native.Mathlib.Omega.{arith}
+use Rattle.emit_laws.specs.CaseTrees.{andTrees}
+use Rattle.derive.proofs.EmitLaws.{few-then, few-kept, emits-two}
+use borrow.Author.Needs.{needs}
+use Rattle.derive.proofs.ands.and_pass.Statement.{statement}
+use Rattle.derive.proofs.ands.and_pass.Tie as tie
+use Rattle.derive.proofs.ands.and_pass.Reads as reads
+use Rattle.derive.proofs.ands.and_pass.Lts as lts
+use Rattle.clause.proofs.Literal.complement.Reads as complement-reads
+use Rattle.derive.proofs.kept.two.Reads as two-reads
+use Rattle.derive.proofs.subst.link2.Reads as link2-reads
+
+complement-requires : tie.Need-complement-requires
+complement-requires c κs = search needs
+
+complement-requires-2 : tie.Need-complement-requires-2
+complement-requires-2 c κs = search needs
+
+complement-requires-3 : tie.Need-complement-requires-3
+complement-requires-3 c κs = search needs
+
+link2-requires : tie.Need-link2-requires
+link2-requires c κs = search needs
+
+link2-requires-2 : tie.Need-link2-requires-2
+link2-requires-2 c κs = search needs
+
+two-requires : tie.Need-two-requires
+two-requires c κs = search needs
+
+same-length : tie.Need-same-length
+same-length c = search needs
+
+returns : tie.Need-returns
+unfolding andTrees
+returns c =
+    let up = c .before .before .before in
+    let down = up .before .before .before .before in
+    let n = down .before .before .before .before .complement .ensures in
+    let x = down .before .before .before .complement2 .ensures in
+    let y = down .before .before .complement3 .ensures in (
+      few-kept (few-then (down .link2 .ensures .0) (up .link22 .ensures .0)) (c .two .ensures),
+      λ t links k h.
+          emits-two (down .link2 .ensures .1 t links k (omega arith) (h .y) (h .y))
+          (rw (n, x, y) at (up .link22 .ensures .1 t links k (omega (arith, n)) (omega (arith, x)) (omega (arith, y)))) (c .two .ensures),
+    )
+
+pub and-pass-spec : {M : Type 1} → statement M
+and-pass-spec =
+    tie.close
+    (tie.spec
+    complement-requires
+    complement-requires-2
+    complement-requires-3
+    link2-requires
+    link2-requires-2
+    two-requires
+    same-length
+    returns)

@@ -1,0 +1,53 @@
+-- Nothing where the net stands for true, and a substitution of both literals where it does not.
+use mathlib.Core.Path.{sym, _∙_}
+use Rattle.fold_laws.specs.Table.{repOf}
+use Rattle.emit_laws.specs.Trees.Tree.{old}
+use Rattle.emit_laws.specs.Gates.{linkOf}
+use Rattle.derive.proofs.EmitLaws.{few-old, emits-old}
+use Rattle.derive.proofs.SubstLaws.{emits-no-link, emits-link}
+use borrow.Author.Needs.{needs}
+use Rattle.derive.proofs.subst.link2.Statement.{statement}
+use Rattle.derive.proofs.subst.link2.Tie as tie
+use Rattle.derive.proofs.subst.link2.Reads as reads
+use Rattle.derive.proofs.subst.link2.Lts as lts
+use Rattle.derive.proofs.lines.given.Reads as given-reads
+use Rattle.derive.proofs.subst.subst2.Reads as subst2-reads
+use Rattle.table.proofs.rows.representative.Reads as representative-reads
+
+representative-requires : tie.Need-representative-requires
+representative-requires c κs = search needs
+
+given-requires : tie.Need-given-requires
+given-requires c κs = search needs
+
+returns : tie.Need-returns
+returns c =
+    let a = c .before .before .before .before .before .args in
+    let n = c .before .before .representative .ensures in (
+      few-old (c .given .ensures),
+      λ t links k m h i.
+          emits-no-link (repOf t) (linkOf links) (old (a .c)) (a .l) (a .n) (a .m) (sym (n t (k .rows) m) ∙ c .before .if1 .taken)
+          (emits-old _ _ _ (c .given .ensures)),
+    )
+
+subst2-requires : tie.Need-subst2-requires
+subst2-requires c κs = search needs
+
+same-length : tie.Need-same-length
+same-length c = search needs
+
+returns-2 : tie.Need-returns-2
+returns-2 c =
+    let a = c .before .before .before .before .before .before .before .before .args in
+    let n = c .before .before .before .before .before .representative .ensures in
+    let g = c .before .before .subst2 .ensures in (
+      g .0,
+      λ t links k m h i.
+          emits-link (repOf t) (linkOf links) (old (a .c)) (a .l) (a .n) (a .m) (λ e. c .before .before .before .before .if1 .left (n t (k .rows) m ∙ e))
+          (g .1 t links k h i),
+    )
+
+pub link2-spec : {M : Type 1} → statement M
+link2-spec =
+    tie.close
+    (tie.spec representative-requires given-requires returns subst2-requires same-length returns-2)

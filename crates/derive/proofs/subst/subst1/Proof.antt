@@ -1,0 +1,71 @@
+-- A literal that stands for itself stays; any other is cut with its link, by the case of the test.
+use mathlib.Core.Path.{sym, _∙_}
+use mathlib.Core.Bool.{and-false}
+use mathlib.Core.Logic.{⊎-elim}
+use native.Mathlib.Omega.{arith}
+use borrow.Author.Tests.{eq-eqb, ne-eqb}
+use Rattle.fold_laws.specs.Table.{repOf}
+use Rattle.emit_laws.specs.Trees.Tree.{old}
+use Rattle.emit_laws.specs.Gates.{linkOf}
+use Rattle.derive.proofs.EmitLaws.{few-old, emits-old}
+use Rattle.derive.proofs.SubstLaws.{emits-own, emits-linked}
+use borrow.Author.Needs.{needs}
+use Rattle.derive.proofs.subst.subst1.Statement.{statement}
+use Rattle.derive.proofs.subst.subst1.Tie as tie
+use Rattle.derive.proofs.subst.subst1.Reads as reads
+use Rattle.derive.proofs.subst.subst1.Lts as lts
+use Rattle.derive.proofs.lines.cut.Reads as cut-reads
+use Rattle.derive.proofs.lines.given.Reads as given-reads
+use Rattle.table.proofs.links.link.Reads as link-reads
+use Rattle.table.proofs.rows.representative.Reads as representative-reads
+
+representative-requires : tie.Need-representative-requires
+representative-requires c κs = search needs
+
+given-requires : tie.Need-given-requires
+given-requires c κs = search needs
+
+returns : tie.Need-returns
+returns c =
+    let a = c .before .before .before .before .before .before .args in
+    let n = c .before .before .before .representative .ensures in (
+      few-old (c .given .ensures),
+      λ t links k h.
+          emits-own (repOf t) (linkOf links) (old (a .c)) (a .l)
+          (rw (eq-eqb (repOf t (a .l)) (a .l) (sym (n t (k .rows) (omega arith)) ∙ c .before .before .if1 .taken), c .before .if2 .taken))
+          (emits-old _ _ _ (c .given .ensures)),
+    )
+
+link-requires : tie.Need-link-requires
+link-requires c κs = search needs
+
+cut-requires : tie.Need-cut-requires
+cut-requires c κs = search needs
+
+same-length : tie.Need-same-length
+same-length c = search needs
+
+returns-2 : tie.Need-returns-2
+returns-2 c =
+    let a = c .before .before .before .before .before .before .before .before .before .args in
+    let n = c .before .before .before .before .before .before .representative .ensures in
+    let g = c .before .before .cut .ensures in (
+      g .0,
+      λ t links k h.
+          emits-linked (repOf t) (linkOf links) (old (a .c)) (a .l)
+          (⊎-elim (λ w. rw (w .1 .left, and-false)) (λ w. rw (ne-eqb (repOf t (a .l)) (a .l) (λ e. w .left (n t (k .rows) (omega arith) ∙ e))))
+          (c .before .before .before .before .before .if1 .came))
+          (rw (c .before .before .before .link .ensures links (k .numbers) h) at (g .1)),
+    )
+
+pub subst1-spec : {M : Type 1} → statement M
+subst1-spec =
+    tie.close
+    (tie.spec
+    representative-requires
+    given-requires
+    returns
+    link-requires
+    cut-requires
+    same-length
+    returns-2)

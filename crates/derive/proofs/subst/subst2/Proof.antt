@@ -1,0 +1,45 @@
+-- One substitution, and a second in its clause where the literals differ.
+use Rattle.fold_laws.specs.Table.{repOf}
+use Rattle.emit_laws.specs.Trees.Tree.{old}
+use Rattle.emit_laws.specs.Gates.{linkOf}
+use Rattle.derive.proofs.EmitLaws.{few-then}
+use Rattle.derive.proofs.SubstLaws.{emits-once, emits-twice}
+use borrow.Author.Needs.{needs}
+use Rattle.derive.proofs.subst.subst2.Statement.{statement}
+use Rattle.derive.proofs.subst.subst2.Tie as tie
+use Rattle.derive.proofs.subst.subst2.Reads as reads
+use Rattle.derive.proofs.subst.subst2.Lts as lts
+use Rattle.derive.proofs.subst.subst1.Reads as subst1-reads
+
+subst1-requires : tie.Need-subst1-requires
+subst1-requires c κs = search needs
+
+same-length : tie.Need-same-length
+same-length c = search needs
+
+returns : tie.Need-returns
+returns c =
+    let g = c .before .before .before .subst1 .ensures in
+    let a = c .before .before .before .before .before .before .before .args in
+    (search needs, λ t links k h i. emits-once (repOf t) (linkOf links) (old (a .c)) (a .l) (a .m) (c .if1 .taken) (g .1 t links k h))
+
+subst1-requires-2 : tie.Need-subst1-requires-2
+subst1-requires-2 c κs = search needs
+
+same-length-2 : tie.Need-same-length-2
+same-length-2 c = search needs
+
+returns-2 : tie.Need-returns-2
+returns-2 c =
+    let a = c .before .before .before .before .before .before .before .before .before .before .before .args in
+    let f = c .before .before .before .before .before .before .before .subst1 .ensures in
+    let g = c .before .before .subst12 .ensures in (
+      few-then (f .0) (g .0),
+      λ t links k h i.
+          emits-twice (repOf t) (linkOf links) (old (a .c)) (a .l) (a .m) (c .before .before .before .before .if1 .left) (f .1 t links k h) (g .1 t links k i),
+    )
+
+pub subst2-spec : {M : Type 1} → statement M
+subst2-spec =
+    tie.close
+    (tie.spec subst1-requires same-length returns subst1-requires-2 same-length-2 returns-2)

@@ -1,0 +1,50 @@
+-- The parts of a gate's derivations, as the functions emit them: each case as the definition has it, and the halves of a gate's two links to
+-- an earlier gate with its key, whose clauses have the numbers D.
+use Prim.Native.Nat.{ℕ}
+use mathlib.Core.List.{List, [], _∷_}
+use Rattle.model.specs.Clauses.{neg}
+use Rattle.fold_laws.specs.Cases.{AndCase, XorCase}
+use Rattle.fold_laws.specs.Table.{Entry, repOf}
+use Rattle.emit_laws.specs.Trees.{Tree}
+use Rattle.emit_laws.specs.Trees.Tree.{old}
+use Rattle.emit_laws.specs.Subst.{subst2, implyAnd, implyXor}
+use Rattle.emit_laws.specs.CaseTrees.{leaf, andTrees, xorTrees}
+use Rattle.emit_laws.specs.Gates.{linkOf}
+use Rattle.derive.specs.declared.gates.Defined.{Defined}
+use Rattle.derive.specs.Known.{keptOf}
+
+module _ (t : List Entry) (links : List (List ℕ)) where
+  -- clause c with the representatives of l and m
+  abbrev pub over : ℕ → ℕ → ℕ → Tree
+  over c l m = subst2 (repOf t) (linkOf links) (old c) l m
+
+  -- ---- an AND
+
+  abbrev pub andCaseTrees : AndCase → Defined → List Tree
+  andCaseTrees k d = andTrees (repOf t) (linkOf links) k (d .n) (d .x) (d .y) (old (d .a)) (old (d .b)) (old (d .c)) (keptOf t links (d .n))
+
+  abbrev pub andOwn : Defined → List Tree
+  andOwn d = over (d .a) (d .x) (d .x) ∷ over (d .b) (d .y) (d .y) ∷ over (d .c) (neg (d .x)) (neg (d .y)) ∷ []
+
+  abbrev pub andDown : Defined → List ℕ → Tree
+  andDown d D = implyAnd (over (d .a) (d .x) (d .x)) (over (d .b) (d .y) (d .y)) (leaf D 2) (repOf t (d .x)) (repOf t (d .y))
+
+  abbrev pub andUp : Defined → List ℕ → Tree
+  andUp d D = implyAnd (leaf D 0) (leaf D 1) (over (d .c) (neg (d .x)) (neg (d .y))) (repOf t (d .x)) (repOf t (d .y))
+
+  -- ---- an XOR
+
+  abbrev pub xorCaseTrees : XorCase → Defined → List Tree
+  xorCaseTrees k d = xorTrees (repOf t) (linkOf links) k (d .n) (d .x) (d .y) (old (d .a)) (old (d .b)) (old (d .c)) (old (d .d)) (keptOf t links (d .n))
+
+  abbrev pub xorOwn : Defined → List Tree
+  xorOwn d =
+      over (d .a) (d .x) (d .y) ∷ over (d .b) (d .x) (neg (d .y)) ∷ over (d .c) (neg (d .x)) (d .y) ∷ over (d .d) (neg (d .x)) (neg (d .y)) ∷ []
+
+  abbrev pub xorDown : Defined → List ℕ → Tree
+  xorDown d D =
+      implyXor (over (d .a) (d .x) (d .y)) (over (d .d) (neg (d .x)) (neg (d .y))) (leaf D 1) (leaf D 2) (repOf t (d .x)) (repOf t (d .y))
+
+  abbrev pub xorUp : Defined → List ℕ → Tree
+  xorUp d D =
+      implyXor (leaf D 0) (leaf D 3) (over (d .b) (d .x) (neg (d .y))) (over (d .c) (neg (d .x)) (d .y)) (repOf t (d .x)) (repOf t (d .y))

@@ -1,0 +1,77 @@
+// One line of the proof: a resolution, written behind those before it.
+use words::write::write_resolve;
+ghost use mathlib.Core.Path.{_≡_};
+ghost use lib.ListN.{length};
+ghost use Rattle.words.specs.Words.{resolve};
+ghost use Rattle.emit_laws.specs.Fields as model;
+ghost use Rattle.emit_laws.specs.Replay.{pivot};
+ghost use Rattle.emit_laws.specs.Trees.Tree.{old, cut as cutTree};
+ghost use Rattle.derive.specs.Emission.{Room, Few, Emits};
+
+pub const LINE_BYTES: usize = 15;
+
+// Where the proof ends: its lines, how many clauses there are then, and the number of the clause that was asked for.
+pub struct Derived {
+    pub lines: usize,
+    pub clauses: u16,
+    pub clause: u16,
+}
+
+// Clause c, which is there.
+pub fn given(at: Derived, c: u16) -> Derived
+    ensures { λ r. ⌜ r ≡ record { lines = at .lines; clauses = at .clauses; clause = c } ⌝ }
+{
+    Derived {
+        lines: at.lines,
+        clauses: at.clauses,
+        clause: c,
+    }
+}
+
+// A resolve's fields: the first clause holds the variable, the second its complement.
+pub struct Resolve {
+    pub first: u16,
+    pub second: u16,
+    pub variable: u16,
+}
+
+// The resolution of clause a, which holds l, and clause b, which holds its complement.
+fn resolution(a: u16, b: u16, l: u16) -> Resolve
+    ensures { λ r. ⌜ resolve (r .first) (r .second) (r .variable) ≡ model.frameOf (pivot a b l) ⌝ }
+{
+    let variable = l / 2;
+    if l % 2 == 1 {
+        return Resolve {
+            first: b,
+            second: a,
+            variable,
+        };
+    }
+    Resolve {
+        first: a,
+        second: b,
+        variable,
+    }
+}
+
+// One line more, and its clause.
+pub fn cut(proof: &mut [u8], at: Derived, a: u16, b: u16, l: u16) -> Derived
+    requires { ⌜ Room (length (now proof)) at 1 ⌝ }
+    ensures few { λ r. ⌜ Few at 1 r ⌝ }
+    ensures emits { λ r. ⌜ Emits (now (proof .entry)) at (now (proof .exit)) r (cutTree (old a) (old b) l) ⌝ }
+{
+    let step = resolution(a, b, l);
+    write_resolve(
+        proof,
+        LINE_BYTES * at.lines,
+        step.first,
+        step.second,
+        step.variable,
+    );
+    let clause = at.clauses + 1;
+    Derived {
+        lines: at.lines + 1,
+        clauses: clause,
+        clause,
+    }
+}
