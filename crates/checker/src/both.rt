@@ -4,12 +4,13 @@ use frame::Op;
 use netlist::Pair;
 use netlist::again::Gate;
 use netlist::again::gate_at;
+use netlist::again::op_at;
 use netlist::again::output_at;
 ghost use mathlib.Core.Path.{_≡_};
 ghost use Prim.Native.Nat.{_+_, _<_};
 ghost use lib.ListN.{getD};
 ghost use Rattle.model.specs.Miter.{gatesOf, zGates};
-ghost use Rattle.netlist.specs.Again.{gateMeant, noGate};
+ghost use Rattle.netlist.specs.Again.{opOf, gateMeant, noGate};
 ghost use Rattle.checker.specs.Miters.{Lists};
 
 // Gate k of both lists, from 0.
@@ -28,6 +29,18 @@ pub fn gate_of(text: &[u8], pair: Pair, k: usize) -> Gate
         x: shift(pair.inputs, left, gate.x),
         y: shift(pair.inputs, left, gate.y),
     }
+}
+
+// Its operation alone.
+pub fn op_of(text: &[u8], pair: Pair, k: usize) -> Op
+    requires { ⌜ Lists (now text) pair × (k < pair .left + pair .right) ⌝ }
+    ensures { λ r. ⌜ ((w : Lists (now (text .entry)) pair) → opOf r ≡ getD (gatesOf (w .left) (w .right)) k noGate .op) ⌝ }
+{
+    let left = pair.left;
+    if k < left {
+        return op_at(text, 0, k);
+    }
+    op_at(text, pair.place, k - left)
 }
 
 // The left and the right output k, from 0, as the XOR that compares them.

@@ -1,6 +1,6 @@
 -- Before the first gate: inputs one by one, and the number behind the clauses of the gates gone through.
 use Prim.Native.Nat.{ℕ, _+_, _≤_, _<_}
-use mathlib.Core.Path.{_≡_, refl, sym, ap, _∙_}
+use mathlib.Core.Path.{_≡_, refl, ap}
 use mathlib.Core.List.{List, [], _∷_, _++_}
 use native.Mathlib.Omega.{arith}
 use native.Mathlib.Numerals.{add-one}
@@ -10,9 +10,7 @@ use Rattle.model.specs.Nets.{Gate, Netlist}
 use Rattle.model.specs.Miter.{gatesOf}
 use Rattle.frame.specs.declared.Op.{Op}
 use Rattle.frame.specs.declared.Op.the-variants.{And, Xor}
-use Rattle.netlist.specs.declared.again.Gate as again
-use Rattle.netlist.specs.Again.{opOf, gateMeant, noGate}
-use Rattle.checker.proofs.MiterLaws.{meant}
+use Rattle.netlist.specs.Again.{opOf, noGate}
 use Rattle.table.specs.Links.{Keeps}
 use Rattle.emit_laws.specs.Place.{clauseCount, behind, firstZClause}
 use Rattle.emit_laws.specs.Emit.{startLinks}
@@ -36,11 +34,8 @@ unfolding firstZClause
 from-two a b = refl
 
 module _ (gs : List Gate) (k n : ℕ) where
-  pub behind-one : (g : again.Gate) → k < length gs → gateMeant g ≡ getD gs k noGate
-      → behind n (drop k gs) ≡ behind (n + clauseCount (opOf (g .op))) (drop (k + 1) gs)
-  behind-one g h is =
-      let o : opOf (g .op) ≡ getD gs k noGate .op = ap (λ (g : Gate). g .op) (sym (meant (g .op) (g .x) (g .y)) ∙ is) in
-      rw (add-one, drop-cons gs k noGate h, o)
+  pub behind-one : (op : Op) → k < length gs → opOf op ≡ getD gs k noGate .op → behind n (drop k gs) ≡ behind (n + clauseCount (opOf op)) (drop (k + 1) gs)
+  behind-one op h is = rw (add-one, drop-cons gs k noGate h, is)
 
   pub behind-all : length gs ≤ k → behind n (drop k gs) ≡ n
   behind-all h = rw (drop-of-length-le gs h)

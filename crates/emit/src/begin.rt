@@ -1,5 +1,5 @@
 // Before the first gate: the numbers of clauses of net 0 and the inputs, and the number of the first z's first clause.
-use checker::both::gate_of;
+use checker::both::op_of;
 use frame::Op;
 use netlist::Pair;
 use table::links::keep;
@@ -51,9 +51,7 @@ pub fn first_z_clause(text: &[u8], pair: Pair) -> u16
     let mut next: u16 = 2;
     let mut i: usize = 0;
     while i < gates {
-        let gate = gate_of(text, pair, i);
-        let op = gate.op;
-        next = behind(next, op);
+        next = behind(next, op_of(text, pair, i));
         i += 1;
     }
     next

@@ -12,7 +12,7 @@ ghost use lib.ListN.{drop, length, getD};
 ghost use Rattle.model.specs.Limits.{mostGates, mostOutputs};
 ghost use Rattle.model.specs.Nets.{Netlist};
 ghost use Rattle.laws.specs.ListText.{Stands};
-ghost use Rattle.netlist.specs.Again.{gateMeant, noGate};
+ghost use Rattle.netlist.specs.Again.{opOf, gateMeant, noGate};
 
 // The bytes of each line of a list, its LF counted.
 pub const HEADER_BYTES: usize = 11;
@@ -56,6 +56,21 @@ pub fn gate_at(text: &[u8], at: usize, k: usize) -> Gate
         };
     };
     Gate { op, x, y }
+}
+
+// The operation of gate k alone: the second digit of its kind tells AND from XOR.
+pub fn op_at(text: &[u8], at: usize, k: usize) -> Op
+    requires { ⌜ (at ≤ length (now text)) × (k < mostGates) ⌝ }
+    ensures { λ r. ⌜ ((n : Netlist) → Stands (drop at (now (text .entry))) n → k < length (n .gates) → opOf r ≡ getD (n .gates) k noGate .op) ⌝ }
+{
+    let place = at + HEADER_BYTES + GATE_BYTES * k + 1;
+    if text.len() <= place {
+        return Op::And;
+    }
+    if text[place] == 51 {
+        return Op::Xor;
+    }
+    Op::And
 }
 
 // The literal of output k, from 0, of the list at a place, which has so many gates.

@@ -14,7 +14,7 @@ use Rattle.emit.proofs.begin.first_z_clause.Statement.{statement}
 use Rattle.emit.proofs.begin.first_z_clause.Tie as tie
 use Rattle.emit.proofs.begin.first_z_clause.Reads as reads
 use Rattle.emit.proofs.begin.first_z_clause.Lts as lts
-use Rattle.checker.proofs.both.gate_of.Reads as gate-of-reads
+use Rattle.checker.proofs.both.op_of.Reads as op-of-reads
 use Rattle.emit.proofs.begin.behind.Reads as behind-reads
 
 abbrev Inv-loop : tie.InvT-loop
@@ -30,8 +30,8 @@ add-gates c = let w = c .before .before .pre in omega (arith, few-left w, few-ri
 loop-holds : tie.Need-loop-holds Inv-loop μ-loop
 loop-holds c = (omega arith, omega arith, λ w. from-two (w .left) (w .right))
 
-gate-of-requires : tie.Need-gate-of-requires Inv-loop μ-loop
-gate-of-requires c κs = search needs
+op-of-requires : tie.Need-op-of-requires Inv-loop μ-loop
+op-of-requires c κs = search needs
 
 behind-requires : tie.Need-behind-requires Inv-loop μ-loop
 behind-requires c κs =
@@ -47,10 +47,10 @@ loop-less c = search needs
 loop-again : tie.Need-loop-again Inv-loop μ-loop
 loop-again c =
     let l = c .before .before .before .loop in
-    let g = c .before .gate-of in
+    let g = c .before .op-of in
     let n = c .behind in (
       omega arith,
-      omega (arith, few-each (g .result .op)),
+      omega (arith, few-each (g .result)),
       λ w.
           let gs = gatesOf (w .left) (w .right) in
           l .inv .2 w
@@ -76,7 +76,7 @@ first-z-clause-spec =
     μ-loop
     add-gates
     loop-holds
-    gate-of-requires
+    op-of-requires
     behind-requires
     add-i
     loop-less
