@@ -1,3 +1,2 @@
-pub mod Progress
-pub mod Miters
+pub mod Lines
 pub mod Verdicts

@@ -12,7 +12,7 @@ use Rattle.frame.specs.declared.Op.{Op}
 use Rattle.frame.specs.declared.Op.the-variants.{And, Xor}
 use Rattle.netlist.specs.declared.again.Gate as again
 use Rattle.netlist.specs.Again.{opOf, gateMeant, noGate}
-use Rattle.checker.proofs.MiterLaws.{meant}
+use Rattle.miter.proofs.MiterLaws.{meant}
 use Rattle.table.specs.Links.{Keeps}
 use Rattle.emit_laws.specs.Place.{clauseCount, behind, firstZClause}
 use Rattle.emit_laws.specs.Emit.{startLinks}

@@ -2,8 +2,8 @@
 use crate::lines::Derived;
 use crate::lines::cut;
 use crate::subst::subst2;
-use checker::both::outputs_of;
 use clause::Literal;
+use miter::both::outputs_of;
 use netlist::Pair;
 use table::rows::representative;
 ghost use mathlib.Core.Path.{_≡_};
@@ -20,7 +20,7 @@ ghost use Rattle.emit_laws.specs.Gates.{linkOf};
 ghost use Rattle.emit_laws.specs.Place.{firstZClause};
 ghost use Rattle.emit_laws.specs.Outputs.{outTree};
 ghost use Rattle.emit_laws.specs.Emit.{lastTree};
-ghost use Rattle.checker.specs.Miters.{Lists};
+ghost use Rattle.miter.specs.Miters.{Lists};
 ghost use Rattle.emit.specs.Emission.{Room, Few, Emits};
 ghost use Rattle.emit.specs.Known.{Known};
 
