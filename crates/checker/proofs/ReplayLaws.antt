@@ -25,8 +25,9 @@ use Rattle.frame.specs.declared.Cursor.{Cursor}
 use Rattle.frame.specs.Frames.{frameOf, first, firstOf}
 use Rattle.frame.proofs.FirstLaws.{first-none, first-fault, first-found}
 use Rattle.netlist.specs.Says.{from}
-use Rattle.checker.specs.declared.steps.Progress.{Progress}
-use Rattle.checker.specs.Progress.{extension, frameStep, endedOf, Tracks, Within, Says}
+use Rattle.steps.specs.declared.Progress.{Progress}
+use Rattle.steps.specs.Progress.{extension, Tracks, Within, Says}
+use Rattle.checker.specs.Lines.{frameStep, endedOf}
 
 -- ---- the step of a frame
 

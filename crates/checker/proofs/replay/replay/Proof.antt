@@ -8,7 +8,7 @@ use denote.Ref.{now}
 use lib.ListN.{length}
 use Rattle.model.specs.Steps.{State}
 use Rattle.frame.specs.Frames.{Inside}
-use Rattle.checker.specs.Progress.{Tracks, Within}
+use Rattle.steps.specs.Progress.{Tracks, Within}
 use Rattle.checker.proofs.ReplayLaws.{Replayed, replay-ended, replay-step, replay-refused}
 use Rattle.checker.proofs.replay.replay.Statement.{statement}
 use Rattle.checker.proofs.replay.replay.Tie as tie
