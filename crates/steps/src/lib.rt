@@ -26,10 +26,10 @@ ghost use Rattle.steps.specs.Progress.{clausesOf, extension, Held, Room,
 
 // How far a proof is: clauses so far, the next unused variable, steps done, and whether the last was a resolve with the empty clause.
 pub struct Progress {
-    pub clauses: usize,
-    pub next: u16,
-    pub steps: usize,
     pub empty: bool,
+    pub next: u16,
+    pub clauses: usize,
+    pub steps: usize,
 }
 
 pub enum Stepped {
