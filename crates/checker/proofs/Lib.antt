@@ -1,7 +1,4 @@
-pub mod HeldLaws
-pub mod StepLaws
+-- The laws; rt itself finds the proof of each function by its place.
 pub mod ReplayLaws
-pub mod MiterLaws
-pub mod BeginLaws
 pub mod VerdictLaws
 pub mod ClearLaws

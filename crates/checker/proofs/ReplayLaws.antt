@@ -26,11 +26,12 @@ use Rattle.frame.specs.declared.Cursor.{Cursor}
 use Rattle.frame.specs.Frames.{frameOf, first, firstOf, Inside}
 use Rattle.frame.proofs.FirstLaws.{first-none, first-fault, first-found}
 use Rattle.netlist.specs.Says.{from}
-use Rattle.checker.specs.declared.steps.Progress.{Progress}
+use Rattle.steps.specs.declared.Progress.{Progress}
 use Rattle.netlist.specs.declared.Refusal.{Refusal}
-use Rattle.checker.specs.declared.steps.Stepped.the-variants as stepped-case
-use Rattle.checker.specs.declared.steps.Stepped.the-variants.{Done}
-use Rattle.checker.specs.Progress.{extension, frameStep, endedOf, Tracks, Within, Says}
+use Rattle.steps.specs.declared.Stepped.the-variants as stepped-case
+use Rattle.steps.specs.declared.Stepped.the-variants.{Done}
+use Rattle.steps.specs.Progress.{extension, Tracks, Within, Says}
+use Rattle.checker.specs.Lines.{frameStep, endedOf}
 use Rattle.checker.specs.Replays.{RanTo}
 
 -- ---- the step of a frame

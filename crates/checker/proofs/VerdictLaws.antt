@@ -24,11 +24,11 @@ use Rattle.netlist.specs.declared.Pair.{Pair}
 use Rattle.netlist.specs.declared.Both.{Both}
 use Rattle.netlist.specs.declared.Both.the-variants.{Paired, Refused}
 use Rattle.netlist.specs.Says.{BothRead, BothSays, from}
-use Rattle.checker.specs.declared.steps.Progress.{Progress}
-use Rattle.checker.specs.Progress.{Tracks}
-use Rattle.checker.proofs.HeldLaws.{all-width}
-use Rattle.checker.specs.Miters as miters
-use Rattle.checker.specs.Miters.{beginOf}
+use Rattle.steps.specs.declared.Progress.{Progress}
+use Rattle.steps.specs.Progress.{Tracks}
+use Rattle.steps.proofs.HeldLaws.{all-width}
+use Rattle.miter.specs.Miters as miters
+use Rattle.miter.specs.Miters.{beginOf}
 use Rattle.checker.specs.Verdicts.{bothRefusal}
 
 -- ---- the lists

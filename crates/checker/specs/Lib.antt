@@ -1,4 +1,3 @@
-pub mod Progress
-pub mod Miters
+pub mod Lines
 pub mod Verdicts
 pub mod Replays

@@ -8,12 +8,12 @@ use Rattle.model.specs.Steps.{State, replay}
 use Rattle.frame.specs.declared.Cursor.{Cursor}
 use Rattle.frame.specs.Frames.{Inside}
 use Rattle.netlist.specs.Says.{from}
-use Rattle.checker.specs.declared.steps.Progress.{Progress}
-use Rattle.checker.specs.declared.steps.Stepped as stepped
-use Rattle.checker.specs.declared.steps.Stepped.the-variants as stepped-case
+use Rattle.steps.specs.declared.Progress.{Progress}
+use Rattle.steps.specs.declared.Stepped as stepped
+use Rattle.steps.specs.declared.Stepped.the-variants as stepped-case
 use Rattle.checker.specs.declared.replay.Ran.{Ran}
 use Rattle.checker.specs.declared.replay.Ran.the-variants.{At, Refused}
-use Rattle.checker.specs.Progress.{Tracks, Within}
+use Rattle.steps.specs.Progress.{Tracks, Within}
 
 -- the lines up to a cursor are replayed: replaying the others comes to what replaying all comes to
 pub record Replayed (room : ℕ) (text : List ℕ) (c₀ : Cursor) (s₀ : State) (store : List ℕ) (c : Cursor) (p : Progress) : Type 0 where

@@ -11,12 +11,12 @@ use Rattle.laws.specs.Soundness.{AgreeingLists}
 use Rattle.netlist.specs.declared.Refusal.{Refusal}
 use Rattle.netlist.specs.declared.Both.{Both}
 use Rattle.netlist.specs.declared.Both.the-variants as both-case
-use Rattle.checker.specs.declared.steps.Stepped.{Stepped}
-use Rattle.checker.specs.declared.steps.Stepped.the-variants.{Done, Refused}
+use Rattle.steps.specs.declared.Stepped.{Stepped}
+use Rattle.steps.specs.declared.Stepped.the-variants.{Done, Refused}
 use Rattle.checker.specs.declared.Checked.{Checked}
 use Rattle.checker.specs.declared.Checked.the-variants as checked-case
 use Rattle.checker.specs.declared.Checked.the-variants.{Accepted}
-use Rattle.checker.specs.Progress.{Tracks}
+use Rattle.steps.specs.Progress.{Tracks}
 
 -- the refusal that an answer holds; where it holds none, nothing is said
 abbrev pub bothRefusal : Both → Refusal

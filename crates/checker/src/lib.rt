@@ -1,11 +1,7 @@
 // The checker (document 01, 'Steps'): a text of two lists and a proof, and a lent clause store. Every text gets a reply: the counts of an
 // accepted proof, or a refusal with its place.
-pub mod begin; // the miter's clauses in the store
-pub mod both; // the gates and outputs of both lists
 pub mod clearing; // zeros behind the clauses
-pub mod miter; // the variables of the miter and their definitions
 pub mod replay; // all lines of a proof
-pub mod steps; // one step
 pub mod verdict; // the verdict, with the clauses left in the store
 
 use clause::Clause;

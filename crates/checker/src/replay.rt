@@ -1,13 +1,13 @@
 // All lines of a proof, one step each (document 01, 'Steps'), up to the end of the text or the first fault.
-use crate::steps::Progress;
-use crate::steps::Stepped;
-use crate::steps::extend_step;
-use crate::steps::resolve_step;
 use frame::Cursor;
 use frame::Frame;
 use frame::Line;
 use frame::read_line;
 use netlist::Refusal;
+use steps::Progress;
+use steps::Stepped;
+use steps::extend_step;
+use steps::resolve_step;
 use words::read::Look;
 use words::read::look_resolve;
 ghost use mathlib.Core.Path.{_≡_};
@@ -15,7 +15,8 @@ ghost use Rattle.model.specs.Steps as model;
 ghost use Rattle.model.specs.Steps.{State};
 ghost use Rattle.frame.specs.Frames.{frameOf, Inside};
 ghost use Rattle.netlist.specs.Says.{from};
-ghost use Rattle.checker.specs.Progress.{Tracks, Within, Says, frameStep, endedOf};
+ghost use Rattle.steps.specs.Progress.{Tracks, Within, Says};
+ghost use Rattle.checker.specs.Lines.{frameStep, endedOf};
 ghost use Rattle.checker.specs.Replays.{RanSays, stoppedOf};
 
 // The step that a frame means: 3 unless it is a step.

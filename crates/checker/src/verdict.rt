@@ -1,11 +1,11 @@
 // The verdict on a text: both lists are read, the miter's clauses written, and the proof's lines replayed.
-use crate::begin::begin;
 use crate::replay::replay;
-use crate::steps::Stepped;
 use clause::Clause;
+use miter::begin::begin;
 use netlist::Both;
 use netlist::Refusal;
 use netlist::read_both;
+use steps::Stepped;
 ghost use mathlib.Core.Path.{_≡_};
 ghost use lib.ListN.{length};
 ghost use Rattle.model.specs.Checker as model;

@@ -17,8 +17,8 @@ use Rattle.laws.specs.ListText.{below-at}
 use Rattle.laws.specs.MiterOrder.{last, shift-below, below-right}
 use Rattle.netlist.specs.declared.Pair.{Pair}
 use Rattle.netlist.specs.Again.{noGate}
-use Rattle.checker.specs.Miters.{Lists}
-use Rattle.checker.proofs.MiterLaws.{z-of}
+use Rattle.miter.specs.Miters.{Lists}
+use Rattle.miter.proofs.MiterLaws.{z-of}
 use Rattle.emit_laws.specs.Trees.{Tree, size, lay}
 use Rattle.emit_laws.specs.Trees.Tree.{old, cut}
 use Rattle.emit_laws.specs.Subst.{subst2}

@@ -1,6 +1,6 @@
 // Before the first gate: the numbers of clauses of net 0 and the inputs, and the number of the first z's first clause.
-use checker::both::op_of;
 use frame::Op;
+use miter::both::op_of;
 use netlist::Pair;
 use table::links::keep;
 ghost use mathlib.Core.Path.{_≡_};
@@ -14,7 +14,7 @@ ghost use Rattle.emit_laws.specs.Emit.{startLinks};
 ghost use Rattle.netlist.specs.Again.{opOf};
 ghost use Rattle.table.specs.Rows.{rowWidth, Holds};
 ghost use Rattle.table.specs.Links.{linkWidth, Keeps};
-ghost use Rattle.checker.specs.Miters.{Lists};
+ghost use Rattle.miter.specs.Miters.{Lists};
 
 // Net 0 is linked to false by clause 1, and inputs stand for themselves. Rows in front stay.
 pub fn start_links(work: &mut [u16], start: usize, inputs: usize)

@@ -1,9 +1,9 @@
 // The outputs: each z is false, then each w, down to the empty clause.
-use checker::both::outputs_of;
 use clause::Literal;
 use derive::lines::Derived;
 use derive::lines::cut;
 use derive::subst::subst2;
+use miter::both::outputs_of;
 use netlist::Pair;
 use table::rows::representative;
 ghost use mathlib.Core.Path.{_≡_};
@@ -20,7 +20,7 @@ ghost use Rattle.emit_laws.specs.Gates.{linkOf};
 ghost use Rattle.emit_laws.specs.Place.{firstZClause};
 ghost use Rattle.emit_laws.specs.Outputs.{outTree};
 ghost use Rattle.emit_laws.specs.Emit.{lastTree};
-ghost use Rattle.checker.specs.Miters.{Lists};
+ghost use Rattle.miter.specs.Miters.{Lists};
 ghost use Rattle.derive.specs.Emission.{Room, Few, Emits};
 ghost use Rattle.derive.specs.Known.{Known};
 

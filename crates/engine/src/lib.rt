@@ -14,7 +14,7 @@ use netlist::read_lists;
 ghost use lib.ListN.{length};
 ghost use Rattle.model.specs.Engine as model;
 ghost use Rattle.engine.specs.Replies.{provedOf, listsOf, FoldedSays, AnswerSays};
-ghost use Rattle.checker.specs.Miters.{Lists};
+ghost use Rattle.miter.specs.Miters.{Lists};
 
 // The number of the proof's lines, or the refusal.
 pub enum Proved {

@@ -12,7 +12,7 @@ use Rattle.laws.specs.Pairs.{isXor}
 use Rattle.frame.specs.declared.Op.{Op}
 use Rattle.netlist.specs.declared.again.Gate.{Gate}
 use Rattle.netlist.specs.Again.{opOf, gateMeant}
-use Rattle.checker.proofs.MiterLaws.{meant}
+use Rattle.miter.proofs.MiterLaws.{meant}
 use Rattle.model.specs.Clauses.{positive}
 use Rattle.fold_laws.specs.Signs.{signed}
 use Rattle.fold_laws.specs.Cases.Made.{is, key}

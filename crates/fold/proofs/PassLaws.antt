@@ -20,8 +20,8 @@ use Rattle.fold_laws.specs.Entries.{length-bases, length-table}
 use Rattle.fold_laws.specs.Engine.{movedTo, bothTable, repsApart, byReps}
 use Rattle.netlist.specs.declared.again.Gate as again
 use Rattle.netlist.specs.Again.{gateMeant, noGate}
-use Rattle.checker.specs.Miters.{zGate}
-use Rattle.checker.proofs.MiterLaws.{z-of}
+use Rattle.miter.specs.Miters.{zGate}
+use Rattle.miter.proofs.MiterLaws.{z-of}
 use Rattle.table.specs.Buckets.{Indexed}
 
 -- ---- net 0 and the inputs

@@ -1,7 +1,7 @@
 // The whole table of both lists: net 0 and the inputs, then the gates; and the first output whose representatives differ.
 use crate::entry::entry;
-use checker::both::gate_of;
-use checker::both::outputs_of;
+use miter::both::gate_of;
+use miter::both::outputs_of;
 use netlist::Pair;
 use table::buckets::empty;
 use table::buckets::insert;
@@ -15,7 +15,7 @@ ghost use Rattle.fold_laws.specs.Table as model;
 ghost use Rattle.fold_laws.specs.Engine.{bothTable, byReps};
 ghost use Rattle.table.specs.Rows.{Holds};
 ghost use Rattle.table.specs.Buckets.{Indexed, Among};
-ghost use Rattle.checker.specs.Miters.{Lists};
+ghost use Rattle.miter.specs.Miters.{Lists};
 
 // The table of net 0 and the inputs, which represent themselves.
 fn set_bases(work: &mut [u16], nets: usize, inputs: usize)

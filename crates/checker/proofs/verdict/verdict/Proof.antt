@@ -10,7 +10,7 @@ use Rattle.checker.proofs.verdict.verdict.Statement.{statement}
 use Rattle.checker.proofs.verdict.verdict.Tie as tie
 use Rattle.checker.proofs.verdict.verdict.Reads as reads
 use Rattle.checker.proofs.verdict.verdict.Lts as lts
-use Rattle.checker.proofs.begin.begin.Reads as begin-reads
+use Rattle.miter.proofs.begin.begin.Reads as begin-reads
 use Rattle.checker.proofs.replay.replay.Reads as replay-reads
 use Rattle.checker.proofs.verdict.capacity.Reads as capacity-reads
 use Rattle.checker.proofs.verdict.refusal.Reads as refusal-reads

@@ -5,8 +5,8 @@ use native.Mathlib.Omega.{arith}
 use lib.ListN.{drop}
 use Rattle.model.specs.Miter.{gatesOf}
 use Rattle.laws.specs.MiterOrder.{length-gates}
-use Rattle.checker.specs.Miters.{Lists}
-use Rattle.checker.proofs.MiterLaws.{few-left, few-right}
+use Rattle.miter.specs.Miters.{Lists}
+use Rattle.miter.proofs.MiterLaws.{few-left, few-right}
 use Rattle.emit_laws.specs.Place.{behind, firstZClause}
 use Rattle.emit.proofs.BeginLaws.{few-each, from-two, behind-one, behind-all}
 use borrow.Author.Needs.{needs}
@@ -14,7 +14,7 @@ use Rattle.emit.proofs.begin.first_z_clause.Statement.{statement}
 use Rattle.emit.proofs.begin.first_z_clause.Tie as tie
 use Rattle.emit.proofs.begin.first_z_clause.Reads as reads
 use Rattle.emit.proofs.begin.first_z_clause.Lts as lts
-use Rattle.checker.proofs.both.op_of.Reads as op-of-reads
+use Rattle.miter.proofs.both.op_of.Reads as op-of-reads
 use Rattle.emit.proofs.begin.behind.Reads as behind-reads
 
 abbrev Inv-loop : tie.InvT-loop

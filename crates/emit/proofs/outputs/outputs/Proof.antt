@@ -13,7 +13,7 @@ use Rattle.laws.specs.MiterOrder.{length-z}
 use Rattle.fold_laws.specs.Table.{Entry, repOf}
 use Rattle.emit_laws.specs.Trees.{Tree}
 use Rattle.emit_laws.specs.Gates.{linkOf}
-use Rattle.checker.specs.Miters.{Lists}
+use Rattle.miter.specs.Miters.{Lists}
 use Rattle.derive.specs.declared.lines.Derived.{Derived}
 use Rattle.derive.specs.Emission.{Few}
 use Rattle.derive.specs.Known.{Known}
@@ -22,7 +22,7 @@ use Rattle.emit.proofs.outputs.outputs.Statement.{statement}
 use Rattle.emit.proofs.outputs.outputs.Tie as tie
 use Rattle.emit.proofs.outputs.outputs.Reads as reads
 use Rattle.emit.proofs.outputs.outputs.Lts as lts
-use Rattle.checker.proofs.both.outputs_of.Reads as outputs-of-reads
+use Rattle.miter.proofs.both.outputs_of.Reads as outputs-of-reads
 use Rattle.derive.proofs.lines.cut.Reads as cut-reads
 use Rattle.emit.proofs.outputs.next_out.Reads as next-out-reads
 use Rattle.emit.proofs.outputs.out.Reads as out-reads

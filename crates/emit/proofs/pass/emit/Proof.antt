@@ -13,7 +13,7 @@ use Rattle.table.specs.Links.{Keeps}
 use Rattle.derive.specs.Known.{Known}
 use Rattle.emit.specs.declared.pass.Passed.{Passed}
 use Rattle.emit.proofs.PassLaws.{known-first, emitted}
-use Rattle.checker.proofs.MiterLaws.{few-left, few-right}
+use Rattle.miter.proofs.MiterLaws.{few-left, few-right}
 use borrow.Author.Needs.{needs}
 use Rattle.emit.proofs.pass.emit.Statement.{statement}
 use Rattle.emit.proofs.pass.emit.Tie as tie

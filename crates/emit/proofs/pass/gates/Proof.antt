@@ -10,7 +10,7 @@ use Rattle.model.specs.Miter.{firstGate, gatesOf}
 use Rattle.laws.specs.MiterOrder.{length-gates}
 use Rattle.fold_laws.specs.Table.{Entry}
 use Rattle.emit_laws.specs.Emit.{startLinks}
-use Rattle.checker.specs.Miters.{Lists}
+use Rattle.miter.specs.Miters.{Lists}
 use Rattle.derive.specs.Known.{Known}
 use Rattle.emit.proofs.PassLaws.{UpTo, up-to-none, up-to-next, reads-done, up-to-all}
 use borrow.Author.Needs.{needs}
@@ -18,7 +18,7 @@ use Rattle.emit.proofs.pass.gates.Statement.{statement}
 use Rattle.emit.proofs.pass.gates.Tie as tie
 use Rattle.emit.proofs.pass.gates.Reads as reads
 use Rattle.emit.proofs.pass.gates.Lts as lts
-use Rattle.checker.proofs.both.gate_of.Reads as gate-of-reads
+use Rattle.miter.proofs.both.gate_of.Reads as gate-of-reads
 use Rattle.emit.proofs.pass.one_gate.Reads as one-gate-reads
 
 abbrev Inv-loop : tie.InvT-loop

@@ -5,7 +5,7 @@ use denote.Ref.{now}
 use Rattle.model.specs.Nets.{Gate}
 use Rattle.laws.specs.Literals.{literals-below}
 use Rattle.netlist.specs.Again.{opOf, gateMeant}
-use Rattle.checker.proofs.MiterLaws.{meant}
+use Rattle.miter.proofs.MiterLaws.{meant}
 use Rattle.emit.specs.Pass.{GateDone}
 use Rattle.emit.proofs.BeginLaws.{few-each}
 use Rattle.emit.proofs.PassLaws.{first-next, gate-done}

@@ -6,14 +6,14 @@ use native.Mathlib.Omega.{arith}
 use lib.ListN.{drop}
 use Rattle.fold_laws.specs.Engine.{movedTo, bothTable, repsApart, byReps}
 use Rattle.table.specs.Rows.{Holds}
-use Rattle.checker.specs.Miters.{Lists}
+use Rattle.miter.specs.Miters.{Lists}
 use Rattle.fold.proofs.PassLaws.{from-first, differ-here, differ-later, apart-none}
 use borrow.Author.Needs.{needs}
 use Rattle.fold.proofs.pass.first_apart.Statement.{statement}
 use Rattle.fold.proofs.pass.first_apart.Tie as tie
 use Rattle.fold.proofs.pass.first_apart.Reads as reads
 use Rattle.fold.proofs.pass.first_apart.Lts as lts
-use Rattle.checker.proofs.both.outputs_of.Reads as outputs-of-reads
+use Rattle.miter.proofs.both.outputs_of.Reads as outputs-of-reads
 use Rattle.table.proofs.rows.representative.Reads as representative-reads
 
 abbrev Inv-loop : tie.InvT-loop

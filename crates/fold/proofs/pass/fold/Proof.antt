@@ -7,18 +7,18 @@ use lib.ListN.{length}
 use Rattle.model.specs.Miter.{gatesOf}
 use Rattle.table.specs.Rows.{entryOf, Holds}
 use Rattle.table.specs.Buckets.{Indexed}
-use Rattle.checker.specs.Miters.{Lists}
+use Rattle.miter.specs.Miters.{Lists}
 use Rattle.laws.specs.MiterOrder.{length-gates}
 use Rattle.fold_laws.specs.Table as model
 use Rattle.netlist.specs.Again.{gateMeant}
-use Rattle.checker.proofs.MiterLaws.{few-left, few-right}
+use Rattle.miter.proofs.MiterLaws.{few-left, few-right}
 use Rattle.fold.proofs.PassLaws.{after, after-none, after-all, gate-entered}
 use borrow.Author.Needs.{needs}
 use Rattle.fold.proofs.pass.fold.Statement.{statement}
 use Rattle.fold.proofs.pass.fold.Tie as tie
 use Rattle.fold.proofs.pass.fold.Reads as reads
 use Rattle.fold.proofs.pass.fold.Lts as lts
-use Rattle.checker.proofs.both.gate_of.Reads as gate-of-reads
+use Rattle.miter.proofs.both.gate_of.Reads as gate-of-reads
 use Rattle.fold.proofs.entry.entry.Reads as entry-reads
 use Rattle.fold.proofs.pass.set_bases.Reads as set-bases-reads
 use Rattle.table.proofs.buckets.insert.Reads as insert-reads

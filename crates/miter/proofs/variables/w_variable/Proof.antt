@@ -1,0 +1,25 @@
+-- Behind the first, the w before it is one variable back (`MiterLaws`).
+use Rattle.miter.proofs.MiterLaws.{w-behind}
+use borrow.Author.Needs.{needs}
+use Rattle.miter.proofs.variables.w_variable.Statement.{statement}
+use Rattle.miter.proofs.variables.w_variable.Tie as tie
+use Rattle.miter.proofs.variables.w_variable.Reads as reads
+use Rattle.miter.proofs.variables.w_variable.Lts as lts
+
+returns : tie.Need-returns
+returns c = search needs
+
+add-result : tie.Need-add-result
+add-result c = search needs
+
+sub-result : tie.Need-sub-result
+sub-result c = search needs
+
+add-result-2 : tie.Need-add-result-2
+add-result-2 c = search needs
+
+returns-2 : tie.Need-returns-2
+returns-2 c = let a = c .before .args in w-behind (a .first) (a .outputs) (a .k) (c .if1 .left)
+
+pub w-variable-spec : {M : Type 1} → statement M
+w-variable-spec = tie.close (tie.spec returns add-result sub-result add-result-2 returns-2)

@@ -1,0 +1,58 @@
+// The gates and outputs of both lists in the miter's numbering: the right list's gates lie behind the left list's.
+use crate::variables::shift;
+use frame::Op;
+use netlist::Pair;
+use netlist::again::Gate;
+use netlist::again::gate_at;
+use netlist::again::op_at;
+use netlist::again::output_at;
+ghost use mathlib.Core.Path.{_≡_};
+ghost use Prim.Native.Nat.{_+_, _<_};
+ghost use lib.ListN.{getD};
+ghost use Rattle.model.specs.Miter.{gatesOf, zGates};
+ghost use Rattle.netlist.specs.Again.{opOf, gateMeant, noGate};
+ghost use Rattle.miter.specs.Miters.{Lists};
+
+// Gate k of both lists, from 0.
+pub fn gate_of(text: &[u8], pair: Pair, k: usize) -> Gate
+    requires { ⌜ Lists (now text) pair × (k < pair .left + pair .right) ⌝ }
+    ensures { λ r. ⌜ ((w : Lists (now (text .entry)) pair) → gateMeant r ≡ getD (gatesOf (w .left) (w .right)) k noGate) ⌝ }
+{
+    let left = pair.left;
+    if k < left {
+        return gate_at(text, 0, k);
+    }
+    let gate = gate_at(text, pair.place, k - left);
+    let op = gate.op;
+    Gate {
+        op,
+        x: shift(pair.inputs, left, gate.x),
+        y: shift(pair.inputs, left, gate.y),
+    }
+}
+
+// Its operation alone.
+pub fn op_of(text: &[u8], pair: Pair, k: usize) -> Op
+    requires { ⌜ Lists (now text) pair × (k < pair .left + pair .right) ⌝ }
+    ensures { λ r. ⌜ ((w : Lists (now (text .entry)) pair) → opOf r ≡ getD (gatesOf (w .left) (w .right)) k noGate .op) ⌝ }
+{
+    let left = pair.left;
+    if k < left {
+        return op_at(text, 0, k);
+    }
+    op_at(text, pair.place, k - left)
+}
+
+// The left and the right output k, from 0, as the XOR that compares them.
+pub fn outputs_of(text: &[u8], pair: Pair, k: usize) -> Gate
+    requires { ⌜ Lists (now text) pair × (k < pair .outputs) ⌝ }
+    ensures { λ r. ⌜ ((w : Lists (now (text .entry)) pair) → gateMeant r ≡ getD (zGates (w .left) (w .right)) k noGate) ⌝ }
+{
+    let x = output_at(text, 0, pair.left, k);
+    let y = output_at(text, pair.place, pair.right, k);
+    Gate {
+        op: Op::Xor,
+        x,
+        y: shift(pair.inputs, pair.left, y),
+    }
+}

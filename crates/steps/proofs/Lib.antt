@@ -1,0 +1,3 @@
+-- The laws; rt itself finds the proof of each function by its place.
+pub mod HeldLaws
+pub mod StepLaws

@@ -1,0 +1,109 @@
+-- Each return is the definition's own case, in the same order (`StepLaws`).
+use mathlib.Core.Path.{_≡_}
+use native.Mathlib.Omega.{arith}
+use borrow.Author.Needs.{needs}
+use denote.Ref.{now}
+use lib.ListN.{length}
+use Rattle.model.specs.Clauses.{positive}
+use Rattle.steps.proofs.StepLaws.{few, first-unused, second-unused, no-variable, no-space, extended, extends, extended-tracks}
+use Rattle.steps.proofs.extend_step.Statement.{statement}
+use Rattle.steps.proofs.extend_step.Tie as tie
+use Rattle.steps.proofs.extend_step.Reads as reads
+use Rattle.steps.proofs.extend_step.Lts as lts
+use Rattle.steps.proofs.clause_count.Reads as clause-count-reads
+use Rattle.steps.proofs.push_gate.Reads as push-gate-reads
+use Rattle.clause.proofs.Literal.positive.Reads as positive-reads
+
+returns : tie.Need-returns
+returns c s t = first-unused (c .before .before .args .room) (c .before .before .args .line) s (c .before .before .args .op) (c .before .before .args .x) (c .before .before .args .y) (omega (arith, t .next))
+
+returns-2 : tie.Need-returns-2
+returns-2 c s t =
+    let a = c .before .before .before .args in
+    second-unused (a .room) (a .line) s (a .op) (a .x) (a .y) (omega (arith, t .next))
+
+returns-3 : tie.Need-returns-3
+returns-3 c s t =
+    let a = c .before .before .before .before .args in
+    no-variable (a .room) (a .line) s (a .op) (a .x) (a .y) (omega (arith, t .next)) (omega (arith, t .next)) (omega (arith, t .next))
+
+clause-count-requires : tie.Need-clause-count-requires
+clause-count-requires c κs = search needs
+
+add-if4 : tie.Need-add-if4
+add-if4 c =
+    let a = c .before .before .before .before .before .args in
+    let w = c .before .before .before .before .before .pre in
+    omega (arith, c .clause-count .ensures 0 (a .x) (a .y), few (a .op) 0 (a .x) (a .y) .1, w .clauses, w .most)
+
+returns-4 : tie.Need-returns-4
+returns-4 c s t =
+    let a = c .before .before .before .before .before .before .args in
+    no-space (a .room) (a .line) s (a .op) (a .x) (a .y) (omega (arith, t .next)) (omega (arith, t .next)) (omega (arith, t .next))
+    (omega (arith, t .clauses, c .before .clause-count .ensures (positive (s .next)) (a .x) (a .y)))
+
+positive-requires : tie.Need-positive-requires
+positive-requires c κs = search needs
+
+push-gate-requires : tie.Need-push-gate-requires
+push-gate-requires c κs =
+    let a = c .before .before .before .before .before .before .before .before .args in
+    let w = c .before .before .before .before .before .before .before .before .pre in
+    record {
+      numbers-for-all = omega (arith, w .numbers-for-all, c .before .before .before .clause-count .ensures (c .before .positive .result .code) (a .x) (a .y));
+      few = omega (arith, w .most, w .clauses);
+      low-n = omega (arith, c .before .positive .ensures);
+      low-x = omega (arith);
+      low-y = omega (arith);
+    }
+
+add-t13 : tie.Need-add-t13
+add-t13 c = search needs
+
+add-t18 : tie.Need-add-t18
+add-t18 c = search needs
+
+same-length : tie.Need-same-length
+same-length c = search needs
+
+returns-5 : tie.Need-returns-5
+returns-5 c s t =
+    let a = c .before .before .before .before .before .before .before .before .before .before .before .before .args in
+    let w = c .before .before .before .before .before .before .before .before .before .before .before .before .pre in
+    let g = c .before .before .before .push-gate in
+    let n = c .before .before .before .before .before .positive in
+    let e = g .ensures .0 in
+    let k = c .before .before .before .before .before .before .before .clause-count .ensures (n .result .code) (a .x) (a .y) in
+    let k′ = c .before .before .before .before .before .before .before .clause-count .ensures (positive (s .next)) (a .x) (a .y) in
+    let l : length (g .last .0) ≡ length (now (a .store)) = search needs in
+    let q = extended-tracks (a .op) (a .x) (a .y) (n .result .code) (g .result) t (n .ensures) e (g .ensures .1) in (
+      extended (a .op) (a .x) (a .y) s,
+      extends (a .room) (a .line) s (a .op) (a .x) (a .y) (omega (arith, t .next)) (omega (arith, t .next)) (omega (arith, t .next)) (omega (arith, t .clauses)),
+      q,
+      record {
+        state = extended (a .op) (a .x) (a .y) s;
+        tracks = q;
+        numbers-for-all = omega (arith, l, w .numbers-for-all);
+        most = w .most;
+        clauses = omega (arith, w .clauses);
+        steps = omega (arith, w .steps, few (a .op) (n .result .code) (a .x) (a .y) .0);
+        next = omega (arith, w .next);
+      },
+    )
+
+pub extend-step-spec : {M : Type 1} → statement M
+extend-step-spec =
+    tie.close
+    (tie.spec
+    returns
+    returns-2
+    returns-3
+    clause-count-requires
+    add-if4
+    returns-4
+    positive-requires
+    push-gate-requires
+    add-t13
+    add-t18
+    same-length
+    returns-5)

@@ -1,0 +1,189 @@
+// One step of a proof (document 01, 'Steps') over the clause store, and the clauses of a gate put into it. The store holds the clauses from its
+// start, eight numbers each; the rest of it is of no account here. No work on a step depends on the size of the store.
+use clause::Clause;
+use clause::Literal;
+use clause::gates::AND_CLAUSES;
+use clause::gates::XOR_CLAUSES;
+use clause::gates::and_clause;
+use clause::gates::xor_clause;
+use clause::resolution::Outcome;
+use clause::store::save;
+use frame::Op;
+use netlist::Refusal;
+use saved::resolve_saved;
+ghost use mathlib.Core.Path.{_≡_};
+ghost use Prim.Native.Nat.{ℕ, _+_, _<_, _≤_};
+ghost use mathlib.Core.List.{List, [], _∷_, _++_};
+ghost use mathlib.Core.Bool.{_&&_};
+ghost use lib.Dec.{leb, ltb};
+ghost use lib.ListN.{length, getD};
+ghost use Rattle.model.specs.Clauses as model;
+ghost use Rattle.model.specs.Steps as steps;
+ghost use Rattle.model.specs.Steps.{State};
+ghost use Rattle.model.specs.Limits.{clauseWidth};
+ghost use Rattle.clause.specs.Sets.{Holds, Rising, literalsOf};
+ghost use Rattle.steps.specs.Progress.{clausesOf, extension, Held, Room, Tracks, Within, Says};
+
+// How far a proof is: clauses so far, the next unused variable, steps done, and whether the last was a resolve with the empty clause.
+pub struct Progress {
+    pub empty: bool,
+    pub next: u16,
+    pub clauses: usize,
+    pub steps: usize,
+}
+
+pub enum Stepped {
+    Done(Progress),
+    Refused(Refusal),
+}
+
+// How many clauses define a gate.
+pub fn clause_count(op: Op) -> usize
+    ensures { λ r. ⌜ ((n x y : ℕ) → r ≡ length (clausesOf op n x y)) ⌝ }
+{
+    match op {
+        Op::And => AND_CLAUSES,
+        Op::Xor => XOR_CLAUSES,
+    }
+}
+
+// Clause j of n = AND or XOR of x, y.
+fn gate_clause(op: Op, n: Literal, x: Literal, y: Literal, j: usize) -> Clause
+    requires { ⌜ j < length (clausesOf op (n .code) (x .code) (y .code)) ⌝ }
+    ensures { λ r. ⌜ Holds r (getD (clausesOf op (n .code) (x .code) (y .code)) j []) ⌝ }
+{
+    match op {
+        Op::And => and_clause(n, x, y, j),
+        Op::Xor => xor_clause(n, x, y, j),
+    }
+}
+
+// The clauses of n = AND or XOR of x, y, behind so many in the store; how many there are then.
+pub fn push_gate(
+    store: &mut [u16],
+    count: usize,
+    op: Op,
+    n: Literal,
+    x: Literal,
+    y: Literal,
+) -> usize
+    requires { ⌜ Room (length (now store)) count op n x y ⌝ }
+    ensures { λ r. ⌜ (r ≡ count + length (clausesOf op (n .code) (x .code) (y .code)))
+        × ((cs : List model.Clause) → Held (now (store .entry)) cs → length cs ≡ count → Held (now (store .exit)) (cs ++ clausesOf op (n .code) (x .code) (y .code))) ⌝ }
+{
+    let total = clause_count(op);
+    let mut j: usize = 0;
+    while j < total {
+        save(store, count + j, gate_clause(op, n, x, y, j));
+        j += 1;
+    }
+    count + total
+}
+
+// Not 0, and not past the last.
+fn is_clause(clauses: usize, k: usize) -> bool
+    ensures { λ r. ⌜ r ≡ ltb 0 k && leb k clauses ⌝ }
+{
+    if k == 0 {
+        return false;
+    }
+    k <= clauses
+}
+
+// Extend: the next unused variable becomes AND or XOR of two literals over variables in use.
+pub fn extend_step(
+    store: &mut [u16],
+    p: Progress,
+    room: usize,
+    line: usize,
+    op: Op,
+    x: u16,
+    y: u16,
+) -> Stepped
+    requires { ⌜ Within (now store) p room ⌝ }
+    ensures { λ r. ⌜ ((s : State) → Tracks (now (store .entry)) p s → Says room (steps.step room line s (extension op x y)) (now (store .exit)) r) ⌝ }
+{
+    let next = p.next;
+    let clauses = p.clauses;
+    if next <= x / 2 {
+        return Stepped::Refused(Refusal { number: 12, line });
+    }
+    if next <= y / 2 {
+        return Stepped::Refused(Refusal { number: 12, line });
+    }
+    if Literal::HIGHEST_VARIABLE < next {
+        return Stepped::Refused(Refusal { number: 13, line });
+    }
+    let total = clause_count(op);
+    if room < clauses + total {
+        return Stepped::Refused(Refusal { number: 14, line });
+    }
+    let n = Literal::positive(next);
+    let count = push_gate(
+        store,
+        clauses,
+        op,
+        n,
+        Literal { code: x },
+        Literal { code: y },
+    );
+    Stepped::Done(Progress {
+        clauses: count,
+        next: next + 1,
+        steps: p.steps + 1,
+        empty: false,
+    })
+}
+
+// A resolvent becomes the next clause.
+fn push_resolvent(
+    store: &mut [u16],
+    p: Progress,
+    room: usize,
+    line: usize,
+    resolvent: Clause,
+) -> Stepped
+    requires { ⌜ Within (now store) p room × (resolvent .len ≤ clauseWidth) × (resolvent .len ≡ length (literalsOf resolvent)) × Rising (literalsOf resolvent) ⌝ }
+    ensures { λ r. ⌜ ((s : State) → Tracks (now (store .entry)) p s → Says room (steps.added room line s (literalsOf resolvent ∷ []) (s .next) (model.isEmpty (literalsOf resolvent))) (now (store .exit)) r) ⌝ }
+{
+    let clauses = p.clauses;
+    if clauses == room {
+        return Stepped::Refused(Refusal { number: 14, line });
+    }
+    save(store, clauses, resolvent);
+    Stepped::Done(Progress {
+        clauses: clauses + 1,
+        next: p.next,
+        steps: p.steps + 1,
+        empty: resolvent.len == 0,
+    })
+}
+
+// Resolve on v: the first clause holds v, the second ¬v. The numbers of clauses are from 1.
+pub fn resolve_step(
+    store: &mut [u16],
+    p: Progress,
+    room: usize,
+    line: usize,
+    a: usize,
+    b: usize,
+    v: u16,
+) -> Stepped
+    requires { ⌜ Within (now store) p room ⌝ }
+    ensures { λ r. ⌜ ((s : State) → Tracks (now (store .entry)) p s → Says room (steps.step room line s (steps.Step.resolve a b v)) (now (store .exit)) r) ⌝ }
+{
+    let clauses = p.clauses;
+    if !is_clause(clauses, a) {
+        return Stepped::Refused(Refusal { number: 9, line });
+    }
+    if !is_clause(clauses, b) {
+        return Stepped::Refused(Refusal { number: 9, line });
+    }
+    let resolved = resolve_saved(store, a - 1, b - 1, v);
+    let outcome = resolved.outcome;
+    match outcome {
+        Outcome::Missing => Stepped::Refused(Refusal { number: 10, line }),
+        Outcome::TooLong => Stepped::Refused(Refusal { number: 11, line }),
+        Outcome::Joined => push_resolvent(store, p, room, line, resolved.clause),
+    }
+}
