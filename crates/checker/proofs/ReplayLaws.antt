@@ -9,7 +9,6 @@ use lib.Dec.{eqb}
 use lib.ListN.{length}
 use Rattle.model.specs.Answers.{Answer, guard, bind}
 use Rattle.model.specs.Answers.Answer.{ok, refused}
-use Rattle.model.specs.Lines as model
 use Rattle.model.specs.Frames as frames
 use Rattle.model.specs.Frames.{dueAt, resolveKind}
 use Rattle.model.specs.Steps.{State, step, isStep, stepOf, stepAt, replay}

@@ -201,8 +201,6 @@ module _ (a b : Netlist) (ab : pairs.Pair a b) where
       ∙ ws-at (length (a .outs) - 1) (f + length (a .outs)) f (suc f) j d (omega arith)
       ∙ or-gate (before (f + length (a .outs)) f j) (wVariable f (length (a .outs)) j) (suc f + j) (f + 1 + j) (before-is f (length (a .outs)) j) (omega arith))
 
--- ---- by one number for all
-
 -- ---- a right gate's literals, for `shift`
 
 module _ {text : List ℕ} {p : Pair} (w : Lists text p) where

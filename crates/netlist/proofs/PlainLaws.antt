@@ -7,7 +7,7 @@ use native.Mathlib.Nat.{add-zero}
 use native.Mathlib.Omega.{arith}
 use lib.ListN.{length}
 use Rattle.laws.specs.ListText.{gateBytes, outputBytes}
-use Rattle.model.specs.Nets.{Netlist, size, isBelow}
+use Rattle.model.specs.Nets.{isBelow}
 use Rattle.frame.specs.declared.Cursor.{Cursor}
 use Rattle.frame.specs.declared.Op.{Op}
 use Rattle.frame.specs.declared.Frame.{Frame}

@@ -356,13 +356,22 @@ fn a_sentence_that_is_not_written_is_no_success() {
 fn stand_ins(name: &str, scripts: &[(&str, &str)]) -> PathBuf {
     let root = folder(name);
     fs::create_dir_all(root.join("target/bin")).expect("they are made");
-    fs::copy(self::root().join("cec"), root.join("cec")).expect("it is copied");
+    let text = fs::read_to_string(self::root().join("cec")).expect("it is read");
+    make_executable(&root.join("cec"), &text);
     for (file, script) in scripts {
-        let file = root.join(file);
-        fs::write(&file, format!("#!/bin/sh\n{script}\n")).expect("it is written");
-        fs::set_permissions(&file, Permissions::from_mode(0o755)).expect("it is ours");
+        make_executable(&root.join(file), &format!("#!/bin/sh\n{script}\n"));
     }
     root
+}
+
+/// Another process writes the file. A file that this one has open for writing cannot be run, and a
+/// process that another test starts at that moment would have it open too.
+fn make_executable(file: &Path, text: &str) {
+    let mut command = Command::new("sh");
+    let write = "printf '%s' \"$2\" >\"$1\" && chmod +x \"$1\"";
+    let command = command.args(["-c", write, "sh"]).arg(file).arg(text);
+    let ended = command.status().expect("the shell runs");
+    assert!(ended.success(), "the file is written");
 }
 
 #[test]

@@ -1,7 +1,7 @@
 -- The invariant: the lines up to the cursor are replayed, whatever the state was (`ReplayLaws`). A turn is a row of resolves and one line of any
 -- kind; the measure is what is left of the text.
 use Prim.Native.Nat.{_-_}
-use mathlib.Core.Path.{_≡_, refl, _∙_}
+use mathlib.Core.Path.{_≡_, _∙_}
 use native.Mathlib.Omega.{arith}
 use borrow.Author.Needs.{needs}
 use denote.Ref.{now}

@@ -4,7 +4,6 @@ use native.Mathlib.Omega.{arith}
 use borrow.Author.Needs.{needs}
 use borrow.Author.Tests.{not-false}
 use denote.Ref.{now}
-use lib.ListN.{length}
 use Rattle.model.specs.Limits.{mostInputs, mostGates}
 use Rattle.netlist.specs.Plain.{PlainGates}
 use Rattle.netlist.proofs.PlainLaws.{row-of-none, row-place, row-more}
