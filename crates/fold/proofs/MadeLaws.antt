@@ -1,10 +1,10 @@
 -- What two representatives make, test by test.
 use Prim.Native.Nat.{ℕ, _-_, _%_, _≤_, _<_}
 use mathlib.Core.Path.{_≡_, refl}
-use mathlib.Core.Bool.{Bool, true, false, not, or-true}
+use mathlib.Core.Bool.{Bool, true, false, not, or-true, cond}
 use native.Mathlib.Omega.{arith}
-use lib.Dec.{eqb}
-use borrow.Author.Tests.{eq-eqb, ne-eqb, le-leb, lt-leb}
+use lib.Dec.{eqb, leb}
+use borrow.Author.Tests.{eq-eqb, ne-eqb}
 use Rattle.model.specs.Nets.{odd, xorb, bit}
 use Rattle.model.specs.Clauses.{neg}
 use Rattle.fold_laws.specs.Signs.{bit-odd}
@@ -53,13 +53,13 @@ module _ (a b : ℕ) where
 
 -- ---- in order
 
-pub in-order : (k : Bool) (p q : ℕ) → p ≤ q → made k p q ≡ ordered k p q
+pub by-order : (k : Bool) (p q : ℕ) {a b : ℕ} → a ≡ cond (leb p q) p q → b ≡ cond (leb p q) q p → made k a b ≡ ordered k p q
 unfolding ordered
-in-order k p q h = rw (le-leb p q h)
-
-pub out-of-order : (k : Bool) (p q : ℕ) → q < p → made k q p ≡ ordered k p q
-unfolding ordered
-out-of-order k p q h = rw (lt-leb p q h)
+by-order k p q e f = rw (e, f) (go (leb p q))
+  where
+    go : (t : Bool) → made k (cond t p q) (cond t q p) ≡ cond t (made k p q) (made k q p)
+    go true = refl
+    go false = refl
 
 -- ---- an XOR's signs
 

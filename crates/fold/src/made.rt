@@ -1,7 +1,8 @@
 // What two representatives make: a literal, or the key of a core to be found.
 use clause::Literal;
 ghost use mathlib.Core.Path.{_≡_};
-ghost use mathlib.Core.Bool.{false, true};
+ghost use mathlib.Core.Bool.{false, true, cond};
+ghost use lib.Dec.{leb};
 ghost use Rattle.fold_laws.specs.Cases as model;
 ghost use Rattle.fold_laws.specs.Table.{ordered, part};
 ghost use Rattle.fold.specs.Entries.{madeOf};
@@ -44,14 +45,24 @@ fn xor_made(a: u16, b: u16) -> Made
     Made::Key(a, b)
 }
 
+// The lower of two, and the higher. Which it is nobody can foresee, so neither takes a branch.
+fn lower(p: u16, q: u16) -> u16
+    ensures { λ r. ⌜ r ≡ cond (leb p q) p q ⌝ }
+{
+    if p <= q { p } else { q }
+}
+
+fn higher(p: u16, q: u16) -> u16
+    ensures { λ r. ⌜ r ≡ cond (leb p q) q p ⌝ }
+{
+    if p <= q { q } else { p }
+}
+
 // The AND of two, put in order.
 pub fn and_of(p: u16, q: u16) -> Made
     ensures { λ r. ⌜ madeOf r ≡ ordered false p q ⌝ }
 {
-    if p <= q {
-        return and_made(p, q);
-    }
-    and_made(q, p)
+    and_made(lower(p, q), higher(p, q))
 }
 
 // The XOR of two with their signs taken off, put in order.
@@ -60,8 +71,5 @@ pub fn xor_of(p: u16, q: u16) -> Made
 {
     let a = p - p % 2;
     let b = q - q % 2;
-    if a <= b {
-        return xor_made(a, b);
-    }
-    xor_made(b, a)
+    xor_made(lower(a, b), higher(a, b))
 }
