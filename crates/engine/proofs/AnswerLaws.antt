@@ -6,7 +6,7 @@ use native.Mathlib.Omega.{arith}
 use lib.ListN.{length, length-replicate}
 use borrow.Author.Tests.{le-leb, lt-leb, eq-eqb, ne-eqb}
 use Rattle.model.specs.Limits.{linesPerGate, linesPerOutput, proofLineBytes, numbersPerNet}
-use Rattle.model.specs.Answers.{Answer, guard, bind, zeros, filled}
+use Rattle.model.specs.Answers.{guard, bind, zeros, filled}
 use Rattle.model.specs.Answers.Answer.{ok, refused}
 use Rattle.model.specs.Lists.{Lists, readLists}
 use Rattle.model.specs.Engine.{lineBound, working, provable, Outcome, Engine}

@@ -1,5 +1,5 @@
 -- What two representatives make, test by test.
-use Prim.Native.Nat.{ℕ, _-_, _%_, _≤_, _<_}
+use Prim.Native.Nat.{ℕ, _-_, _%_}
 use mathlib.Core.Path.{_≡_, refl}
 use mathlib.Core.Bool.{Bool, true, false, not, or-true, cond}
 use native.Mathlib.Omega.{arith}

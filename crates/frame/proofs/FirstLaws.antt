@@ -7,7 +7,7 @@ use Rattle.model.specs.Answers.{Answer}
 use Rattle.model.specs.Answers.Answer.{ok, refused}
 use Rattle.model.specs.Lines.{Line}
 use Rattle.model.specs.Frames.{Frame, frameAt}
-use Rattle.frame.specs.Frames.{First, first, firstIn}
+use Rattle.frame.specs.Frames.{first, firstIn}
 use Rattle.frame.specs.Frames.First.{none, found, fault}
 
 -- ---- no two cases are the same

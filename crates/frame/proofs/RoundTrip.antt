@@ -16,7 +16,6 @@ use Rattle.model.specs.Frames as model
 use Rattle.laws.specs.Answers.{ok-injective, refused-not-ok, guard-ok}
 use Rattle.laws.specs.Bools.{both}
 use Rattle.laws.specs.RoundTrip.{Proper, buffer-read, buffer-written}
-use Rattle.frame.specs.declared.Op.{Op}
 use Rattle.frame.specs.declared.Op.the-variants.{And, Xor}
 use Rattle.frame.specs.declared.Frame.{Frame}
 use Rattle.frame.specs.declared.Frame.the-variants.{Header, Gate, Output, Resolve, Extend, Report}

@@ -10,7 +10,6 @@ use lib.Dec.{ltb, leb}
 use Rattle.model.specs.Limits.{mostInputs, mostGates, mostOutputs}
 use Rattle.model.specs.Answers.{Answer, guard, bind}
 use Rattle.model.specs.Answers.Answer.{ok, refused}
-use Rattle.model.specs.Lines as model
 use Rattle.model.specs.Frames.{field, endAt, headerKind, xorKind}
 use Rattle.model.specs.Nets as nets
 use Rattle.model.specs.Nets.{Netlist, size, isBelow}

@@ -6,7 +6,7 @@ use mathlib.Core.Path.{_≡_, refl}
 use mathlib.Core.Bool.{true, false}
 use mathlib.Core.List.{List, [], _∷_, _++_}
 use lib.ListN.{length, drop}
-use Rattle.model.specs.Answers.{Answer, guard, zeros}
+use Rattle.model.specs.Answers.{guard, zeros}
 use Rattle.model.specs.Answers.Answer.{ok, refused}
 use Rattle.model.specs.Frames.{Frame, loneLine, lineOf, writeFrame, writtenFrame}
 use Rattle.model.specs.Nets.{Gate}
