@@ -1,4 +1,3 @@
 -- The laws; rt itself finds the proof of each function by its place.
 pub mod ReplayLaws
 pub mod VerdictLaws
-pub mod ClearLaws

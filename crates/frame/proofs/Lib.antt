@@ -1,3 +1,4 @@
+pub mod ClearLaws
 pub mod DigitLaws
 pub mod LineLaws
 pub mod DecodeLaws

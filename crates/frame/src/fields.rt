@@ -2,9 +2,10 @@
 use crate::Frame;
 use crate::Op;
 ghost use mathlib.Core.Path.{_≡_};
-ghost use Prim.Native.Nat.{_+_, _≤_, _<_};
+ghost use mathlib.Core.List.{_++_};
+ghost use Prim.Native.Nat.{_+_, _-_, _≤_, _<_};
 ghost use lib.Dec.{leb};
-ghost use lib.ListN.{length};
+ghost use lib.ListN.{length, take};
 ghost use lib.Seq.{sets};
 ghost use Rattle.model.specs.Limits.{highestLine};
 ghost use Rattle.model.specs.Answers.{zeros};
@@ -185,11 +186,11 @@ pub fn write_line(frame: Frame, out: &mut [u8], at: usize) -> usize
     p + 1
 }
 
-// Zeros everywhere.
-pub fn clear(out: &mut [u8])
-    ensures { λ _. ⌜ now (out .exit) ≡ zeros (length (now (out .entry))) ⌝ }
+// Zeros from a place on; where the place lies behind the last, nothing changes.
+pub fn clear_from(out: &mut [u8], from: usize)
+    ensures { λ _. ⌜ now (out .exit) ≡ take from (now (out .entry)) ++ zeros (length (now (out .entry)) - from) ⌝ }
 {
-    let mut at: usize = 0;
+    let mut at = from;
     while at < out.len() {
         out[at] = 0;
         at += 1;

@@ -1,26 +1,30 @@
 -- Lists from their parts: gates and outputs behind a header, a list behind another, and nothing behind. Each law puts what two readers say
 -- together to what the definition reads.
-use Prim.Native.Nat.{ℕ, _+_}
+use Prim.Native.Nat.{ℕ, _+_, _≤_}
 use mathlib.Core.Path.{_≡_, refl, sym, ap, _∙_}
 use mathlib.Core.Bool.{Bool, true, false, and-false}
 use mathlib.Core.List.{List}
 use native.Mathlib.Omega.{arith}
 use lib.ListN.{length}
 use borrow.Author.Tests.{eq-eqb, ne-eqb}
+use Rattle.model.specs.Limits.{mostGates, mostOutputs}
 use Rattle.model.specs.Answers.Answer.{ok, refused}
+use Rattle.model.specs.Lines.{lines}
 use Rattle.model.specs.Frames.{endAt}
 use Rattle.model.specs.Nets.{Netlist, size}
 use Rattle.model.specs.Lists.{emptyList, readOutputs, readGates, readList, anyHeader, likeLeft, readBoth, readLists, readOne}
+use Rattle.laws.specs.Reading as reading
 use Rattle.frame.specs.declared.Cursor.{Cursor}
 use Rattle.netlist.specs.declared.Refusal.{Refusal}
 use Rattle.netlist.specs.declared.Counts.{Counts}
 use Rattle.netlist.specs.declared.Pair.{Pair}
 use Rattle.netlist.specs.declared.Behind.{Behind}
-use Rattle.netlist.specs.declared.Both as both
-use Rattle.netlist.specs.declared.Both.the-variants as both-case
+use Rattle.netlist.specs.declared.Part.the-variants as part-case
 use Rattle.netlist.specs.declared.Behind.the-variants.{At, Refused}
-use Rattle.netlist.specs.Says.{from, answerOf, GatesRead, GatesSay, OutputsRead, OutputsSay, HeaderRead, BodyRead, BodySays, PartRead, RightRead, RightSays, BothRead, BothSays, refusal, countsOf, pairOf}
+use Rattle.netlist.specs.Says.{from, answerOf, GatesRead, GatesSay, OutputsRead, OutputsSay, HeaderRead, BodyRead, BodySays, PartRead, RightRead, RightSays, refusal}
+use Rattle.netlist.specs.Replies.{countsOf, bytesOf, linesOf, pairBy, pairOf, bothOf}
 use Rattle.netlist.proofs.DueLaws.{guard-passed, guard-failed}
+use Rattle.netlist.proofs.ReplyLaws.{BothLists, both-lists, both-none}
 
 -- ---- a body
 
@@ -91,81 +95,71 @@ module _ (text : List ℕ) (c : Cursor) (k : Counts) (body : Cursor) (h : Header
 -- ---- a right list behind a left one with these counts
 
 module _ (text : List ℕ) (left : Counts) (c : Cursor) (k : Counts) (body : Cursor) (h : HeaderRead text c k body) where
-  pub unlike-inputs : (k .inputs ≡ left .inputs → ⊥) → RightSays text left c (both-case.Refused (refusal 6 (c .line)))
+  pub unlike-inputs : (k .inputs ≡ left .inputs → ⊥) → RightSays text left c (part-case.Refused (refusal 6 (c .line)))
   unlike-inputs x n i o = list-unlike text c k body h (likeLeft n) (rw (i, ne-eqb (k .inputs) (left .inputs) x))
 
-  pub unlike-outputs : (k .outputs ≡ left .outputs → ⊥) → RightSays text left c (both-case.Refused (refusal 6 (c .line)))
+  pub unlike-outputs : (k .outputs ≡ left .outputs → ⊥) → RightSays text left c (part-case.Refused (refusal 6 (c .line)))
   unlike-outputs x n i o = list-unlike text c k body h (likeLeft n) (rw (o, ne-eqb (k .outputs) (left .outputs) x, and-false))
 
   module _ (inputs : k .inputs ≡ left .inputs) (outputs : k .outputs ≡ left .outputs) where
     alike : (n : Netlist) → n .inputs ≡ left .inputs → length (n .outs) ≡ left .outputs → likeLeft n (k .inputs) (k .outputs) ≡ true
     alike n i o = rw (i, o, eq-eqb (k .inputs) (left .inputs) inputs, eq-eqb (k .outputs) (left .outputs) outputs)
 
-    pub right-refused : (r : Refusal) → BodySays text body k (Refused r) → RightSays text left c (both-case.Refused r)
+    pub right-refused : (r : Refusal) → BodySays text body k (Refused r) → RightSays text left c (part-case.Refused r)
     right-refused r e n i o = list-refused text c k body h (likeLeft n) (alike n i o) r e
 
-    pub right-read : (next : Cursor) → BodyRead text body k next
-        → RightRead text left c (record { inputs = left .inputs; left = left .gates; right = k .gates; outputs = left .outputs; place = c .at; next = next })
+    pub right-read : (next : Cursor) → BodyRead text body k next → RightRead text left c k next
     right-read next e = record {
-      inside = e .inside;
-      inputs = refl;
-      left = refl;
-      outputs = refl;
-      place = refl;
+      outputs = outputs;
       list = e .list;
-      listed = record {
-        inputs = e .listed .inputs ∙ inputs;
-        gates = e .listed .gates;
-        outputs = e .listed .outputs ∙ outputs;
-        line = e .listed .line;
-        rest = e .listed .rest;
-      };
+      listed = e .listed;
       reads = λ n i o. list-read text c k body h (likeLeft n) (alike n i o) next e;
     }
 
 -- ---- both lists
 
-module _ (text : List ℕ) (k : Counts) (middle : Cursor) (a : PartRead text (record { at = 0; line = 1 }) k middle) where
+abbrev first : Cursor
+first = record { at = 0; line = 1 }
+
+-- their pair, by its places
+pub pair-is : (inputs left right outputs place at line : ℕ) → place ≡ bytesOf left outputs → at ≡ place + bytesOf right outputs → line ≡ 1 + linesOf left outputs + linesOf right outputs
+    → _≡_ {A = Pair} (record { inputs = inputs; left = left; right = right; outputs = outputs; place = place; next = record { at = at; line = line } }) (pairBy inputs left right outputs)
+pair-is inputs left right outputs place at line p q l = rw (q, p, l)
+
+module _ (text : List ℕ) (k : Counts) (middle : Cursor) (a : PartRead text first k middle) where
+  -- the counts are within the limits
+  pub few : (k .gates ≤ mostGates) × (k .outputs ≤ mostOutputs)
+  few = let g = reading.list-read anyHeader (lines text) 1 (a .list) (a .reads) .good in (rw (← (a .listed .gates)) (g .gates), rw (← (a .listed .outputs)) (g .outs))
+
   second : (like : ℕ → ℕ → Bool) → readList like (a .list .rest) (a .list .line) ≡ readList like (from text middle) (middle .line)
   second like = rw (a .listed .rest, a .listed .line)
 
-  pub both-says : (r : both.Both) → RightSays text k middle r → BothSays text r
+  pub right-refused-both : (r : Refusal) → RightSays text k middle (part-case.Refused r) → answerOf r ≡ bothOf (readBoth text)
   unfolding readBoth
-  both-says (both-case.Refused r) e = rw (a .reads, second (likeLeft (a .list .list)), e (a .list .list) (a .listed .inputs) (a .listed .outputs))
-  both-says (both-case.Paired p) e = record {
-    inside = e .inside;
-    left = a .list;
-    right = e .list;
-    first = a .reads;
-    second = second (likeLeft (a .list .list)) ∙ e .reads (a .list .list) (a .listed .inputs) (a .listed .outputs);
-    place = a .listed .rest ∙ rw (e .place);
-    left-listed = record {
-      inputs = a .listed .inputs ∙ sym (e .inputs);
-      gates = a .listed .gates ∙ sym (e .left);
-      outputs = a .listed .outputs ∙ sym (e .outputs);
-      line = refl;
-      rest = a .listed .rest ∙ rw (e .place);
-    };
-    right-listed = record {
-      inputs = e .listed .inputs ∙ sym (e .inputs);
-      gates = e .listed .gates;
-      outputs = e .listed .outputs ∙ sym (e .outputs);
-      line = e .listed .line;
-      rest = e .listed .rest;
-    };
-  }
+  right-refused-both r e = rw (a .reads, second (likeLeft (a .list .list)), e (a .list .list) (a .listed .inputs) (a .listed .outputs))
 
-pub left-refused : (text : List ℕ) (r : Refusal) → readList anyHeader (from text (record { at = 0; line = 1 })) 1 ≡ answerOf r → readBoth text ≡ answerOf r
+  module _ (right : Counts) (next : Cursor) (b : RightRead text k middle right next) where
+    reads : readList (likeLeft (a .list .list)) (from text middle) (middle .line) ≡ ok (b .list)
+    reads = b .reads (a .list .list) (a .listed .inputs) (a .listed .outputs)
+
+    pub few-right : right .gates ≤ mostGates
+    few-right = let g = reading.list-read (likeLeft (a .list .list)) (from text middle) (middle .line) (b .list) reads .good in rw (← (b .listed .gates)) (g .gates)
+
+    pub both-paired : ok (pairBy (k .inputs) (k .gates) (right .gates) (k .outputs)) ≡ bothOf (readBoth text)
+    unfolding readBoth
+    both-paired = rw (a .reads, second (likeLeft (a .list .list)), reads, a .listed .inputs, a .listed .gates, a .listed .outputs, b .listed .gates)
+
+pub left-refused : (text : List ℕ) (r : Refusal) → readList anyHeader (from text first) 1 ≡ answerOf r → answerOf r ≡ bothOf (readBoth text)
 unfolding readBoth
 left-refused text r e = rw e
 
 -- ---- one list, and nothing behind it
 
-pub one-refused : (text : List ℕ) (r : Refusal) → readList anyHeader (from text (record { at = 0; line = 1 })) 1 ≡ answerOf r → answerOf r ≡ countsOf (readOne text)
+pub one-refused : (text : List ℕ) (r : Refusal) → readList anyHeader (from text first) 1 ≡ answerOf r → answerOf r ≡ countsOf (readOne text)
 unfolding readOne
 one-refused text r e = rw e
 
-module _ (text : List ℕ) (k : Counts) (next : Cursor) (a : PartRead text (record { at = 0; line = 1 }) k next) where
+module _ (text : List ℕ) (k : Counts) (next : Cursor) (a : PartRead text first k next) where
   pub one-more : (r : Refusal) → endAt (from text next) (next .line) ≡ answerOf r → answerOf r ≡ countsOf (readOne text)
   unfolding readOne
   one-more r e = rw (a .reads, a .listed .rest, a .listed .line, e)
@@ -176,22 +170,18 @@ module _ (text : List ℕ) (k : Counts) (next : Cursor) (a : PartRead text (reco
 
 -- ---- two lists, and nothing behind them
 
-pub lists-refused : (text : List ℕ) (r : Refusal) → readBoth text ≡ answerOf r → readLists text ≡ answerOf r
+pub lists-refused : (text : List ℕ) (r : Refusal) → answerOf r ≡ bothOf (readBoth text) → answerOf r ≡ pairOf (readLists text)
 unfolding readLists
-lists-refused text r e = rw e
+lists-refused text r e = rw (both-none text (r .number) (r .line) e)
 
-module _ (text : List ℕ) (p : Pair) (a : BothRead text p) where
-  both-is : readBoth text ≡ ok (record { lists = record { left = a .left .list; right = a .right .list }; line = p .next .line; rest = from text (p .next) })
-  unfolding readBoth
-  both-is = rw (a .first, a .second, a .right-listed .line, a .right-listed .rest)
+module _ (text : List ℕ) (p : Pair) (e : ok p ≡ bothOf (readBoth text)) where
+  both : BothLists text p
+  both = both-lists text p e
 
-  pub lists-more : (r : Refusal) → endAt (from text (p .next)) (p .next .line) ≡ answerOf r → readLists text ≡ answerOf r
+  pub lists-more : (r : Refusal) → endAt (from text (p .next)) (p .next .line) ≡ answerOf r → answerOf r ≡ pairOf (readLists text)
   unfolding readLists
-  lists-more r e = rw (both-is, e)
+  lists-more r h = rw (both .reads, both .rest, both .line, h)
 
-  pub lists-alone : endAt (from text (p .next)) (p .next .line) ≡ ok tt → readLists text ≡ ok (record { left = a .left .list; right = a .right .list })
+  pub lists-alone : endAt (from text (p .next)) (p .next .line) ≡ ok tt → ok p ≡ pairOf (readLists text)
   unfolding readLists
-  lists-alone e = rw (both-is, e)
-
-  pub pair-counts : ok (record { inputs = p .inputs; left = p .left; right = p .right; outputs = p .outputs }) ≡ pairOf (ok (record { left = a .left .list; right = a .right .list }))
-  pair-counts = rw (a .left-listed .inputs, a .left-listed .gates, a .left-listed .outputs, a .right-listed .gates)
+  lists-alone h = e ∙ rw (both .reads, both .rest, both .line, h)

@@ -1,18 +1,27 @@
--- What a reply of counts says: the text is a list with these counts, it stands there, and the counts are within the limits.
-use Prim.Native.Nat.{ℕ, _≤_}
-use mathlib.Core.Path.{_≡_, refl, sym, ap}
+-- What a reply says. One list: the text is a list with these counts, it stands there, and the counts are within the limits. Two lists: both
+-- stand where the reply has them, and the text goes on at its cursor.
+use Prim.Native.Nat.{ℕ, _+_, _≤_}
+use mathlib.Core.Path.{_≡_, refl, sym, ap, _∙_, subst}
 use mathlib.Core.List.{List}
-use lib.ListN.{length}
+use native.Mathlib.Omega.{arith}
+use lib.ListN.{length, drop, length-append}
+use lib.Seq.{drop-drop}
 use Rattle.model.specs.Limits.{mostInputs, mostGates, mostOutputs}
 use Rattle.model.specs.Answers.{Answer}
 use Rattle.model.specs.Answers.Answer.{ok, refused}
 use Rattle.model.specs.Nets.{Netlist}
-use Rattle.model.specs.Lists.{readOne}
-use Rattle.laws.specs.Answers.{ok-injective, refused-not-ok}
-use Rattle.laws.specs.Reading.{one-good}
-use Rattle.laws.specs.ListText.{Stands, one-stands}
+use Rattle.model.specs.Lines.{lines}
+use Rattle.model.specs.Frames.{endAt}
+use Rattle.model.specs.Lists.{readOne, Lists, ListsRead, readBoth, readLists}
+use Rattle.laws.specs.Answers.{ok-injective, refused-not-ok, bind-ok}
+use Rattle.laws.specs.Pairs as pairs
+use Rattle.laws.specs.Reading.{one-good, both-good}
+use Rattle.laws.specs.ListText.{Stands, one-stands, listText, list-length, drop-list, both-stands}
+use Rattle.frame.specs.Frames.{Inside}
 use Rattle.netlist.specs.declared.Counts.{Counts}
-use Rattle.netlist.specs.Says.{countsOf}
+use Rattle.netlist.specs.declared.Pair.{Pair}
+use Rattle.netlist.specs.Says.{from}
+use Rattle.netlist.specs.Replies.{countsOf, bytesOf, pair, pairOf, bothOf}
 
 pub record OneList (text : List ℕ) (k : Counts) : Type 0 where
   pub list : Netlist
@@ -54,3 +63,88 @@ one-none text number line e = go (readOne text) refl e
     go : (a : Answer Netlist) → readOne text ≡ a → refused number line ≡ countsOf a → readOne text ≡ refused number line
     go (ok n) r e = absurd (refused-not-ok e)
     go (refused m l) r e = cc
+
+-- ---- two lists
+
+pub record BothLists (text : List ℕ) (p : Pair) : Type 0 where
+  pub read : ListsRead
+  pub reads : readBoth text ≡ ok read
+  pub alike : pairs.Pair (read .lists .left) (read .lists .right)
+  pub left-stands : Stands text (read .lists .left)
+  pub right-stands : Stands (drop (p .place) text) (read .lists .right)
+  pub inputs : read .lists .left .inputs ≡ p .inputs
+  pub left-gates : length (read .lists .left .gates) ≡ p .left
+  pub right-gates : length (read .lists .right .gates) ≡ p .right
+  pub outputs : length (read .lists .left .outs) ≡ p .outputs
+  pub inside : Inside text (p .next)
+  pub rest : read .rest ≡ from text (p .next)
+  pub line : read .line ≡ p .next .line
+
+-- the pair of two lists that are read
+both-stand : (text : List ℕ) (r : ListsRead) → readBoth text ≡ ok r → BothLists text (pair (r .lists))
+both-stand text r e =
+    let s = both-stands text r e in
+    let ab = both-good text r e in
+    let a = r .lists .left in
+    let b = r .lists .right in
+    let place : length (listText a) ≡ bytesOf (length (a .gates)) (length (a .outs)) = list-length a in
+    let bytes : length (listText b) ≡ bytesOf (length (b .gates)) (length (a .outs)) = rw (ab .outs) (list-length b) in
+    let behind : drop (length (listText a) + length (listText b)) text ≡ s .right .rest =
+    sym (drop-drop (length (listText b)) (length (listText a)) text) ∙ drop-list (s .right) in
+    let whole : length (listText a) + length (listText b) ≤ length text =
+    omega (arith, ap length (s .left .text), length-append (listText a) (s .left .rest), ap length (sym (drop-list (s .left))), ap length (s .right .text), length-append (listText b) (s .right .rest)) in
+    record {
+      read = r;
+      reads = e;
+      alike = ab;
+      left-stands = s .left;
+      right-stands = rw (← place) (s .right);
+      inputs = refl;
+      left-gates = refl;
+      right-gates = refl;
+      outputs = refl;
+      inside = record { at = omega (arith, place, bytes, whole); line = omega arith };
+      rest = sym (s .behind) ∙ rw (← place, ← bytes) (ap lines (sym behind));
+      line = omega (arith, s .after, ab .outs);
+    }
+
+pub both-lists : (text : List ℕ) (p : Pair) → ok p ≡ bothOf (readBoth text) → BothLists text p
+both-lists text p e = go (readBoth text) refl e
+  where
+    go : (a : Answer ListsRead) → readBoth text ≡ a → ok p ≡ bothOf a → BothLists text p
+    go (ok r) is e = subst (BothLists text) (sym (ok-injective e)) (both-stand text r is)
+    go (refused number line) is e = absurd (refused-not-ok (sym e))
+
+pub both-none : (text : List ℕ) (number line : ℕ) → refused number line ≡ bothOf (readBoth text) → readBoth text ≡ refused number line
+both-none text number line e = go (readBoth text) refl e
+  where
+    go : (a : Answer ListsRead) → readBoth text ≡ a → refused number line ≡ bothOf a → readBoth text ≡ refused number line
+    go (ok r) is e = absurd (refused-not-ok e)
+    go (refused m l) is e = cc
+
+-- and nothing behind them
+pub record TwoLists (text : List ℕ) (p : Pair) : Type 0 where
+  pub both : BothLists text p
+  pub alone : readLists text ≡ ok (both .read .lists)
+
+two-stand : (text : List ℕ) (l : Lists) → readLists text ≡ ok l → TwoLists text (pair l)
+unfolding readLists both-stand
+two-stand text l is =
+    let r = bind-ok (readBoth text) is in
+    let z = bind-ok (endAt (r .0 .rest) (r .0 .line)) (r .2) in
+    let same : r .0 .lists ≡ l = ok-injective (z .2) in
+    subst (λ (m : Lists). TwoLists text (pair m)) same (record { both = both-stand text (r .0) (r .1); alone = is ∙ ap ok (sym same) })
+
+pub two-lists : (text : List ℕ) (p : Pair) → ok p ≡ pairOf (readLists text) → TwoLists text p
+two-lists text p e = go (readLists text) refl e
+  where
+    go : (a : Answer Lists) → readLists text ≡ a → ok p ≡ pairOf a → TwoLists text p
+    go (ok l) is e = subst (TwoLists text) (sym (ok-injective e)) (two-stand text l is)
+    go (refused number line) is e = absurd (refused-not-ok (sym e))
+
+pub two-none : (text : List ℕ) (number line : ℕ) → refused number line ≡ pairOf (readLists text) → readLists text ≡ refused number line
+two-none text number line e = go (readLists text) refl e
+  where
+    go : (a : Answer Lists) → readLists text ≡ a → refused number line ≡ pairOf a → readLists text ≡ refused number line
+    go (ok l) is e = absurd (refused-not-ok e)
+    go (refused m l) is e = cc

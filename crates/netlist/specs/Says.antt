@@ -6,25 +6,22 @@ use mathlib.Core.Bool.{Bool}
 use mathlib.Core.List.{List}
 use lib.ListN.{length, drop}
 use Rattle.model.specs.Limits.{mostInputs, mostGates, mostOutputs}
-use Rattle.model.specs.Answers.{Answer, guard, bind}
+use Rattle.model.specs.Answers.{Answer, guard}
 use Rattle.model.specs.Answers.Answer.{ok, refused}
 use Rattle.model.specs.Lines as model
 use Rattle.model.specs.Frames.{endAt}
 use Rattle.model.specs.Nets.{Gate, Netlist, size}
-use Rattle.model.specs.Lists.{ListRead, addGate, addOutput, emptyList, readOutputs, readGates, readList, anyHeader, likeLeft, Lists, readBoth, readLists}
+use Rattle.model.specs.Lists.{ListRead, addGate, addOutput, emptyList, readOutputs, readGates, readList, anyHeader, likeLeft}
 use Rattle.frame.specs.declared.Cursor.{Cursor}
 use Rattle.frame.specs.declared.Line.{Line}
 use Rattle.frame.specs.declared.Line.the-variants.{Read, End, Refused}
 use Rattle.frame.specs.Frames.{Inside}
 use Rattle.netlist.specs.declared.Refusal.{Refusal}
 use Rattle.netlist.specs.declared.Counts.{Counts}
-use Rattle.netlist.specs.declared.Pair.{Pair}
 use Rattle.netlist.specs.declared.Part as part
 use Rattle.netlist.specs.declared.Part.the-variants as part-case
 use Rattle.netlist.specs.declared.Behind as behind
 use Rattle.netlist.specs.declared.Behind.the-variants as behind-case
-use Rattle.netlist.specs.declared.Both as both
-use Rattle.netlist.specs.declared.Both.the-variants as both-case
 
 -- ---- refusals
 
@@ -141,7 +138,7 @@ BodySays text c k (behind-case.At next) = BodyRead text c k next
 BodySays text c k (behind-case.Refused r) = readGates (k .gates) (k .outputs) (emptyList (k .inputs)) (from text c) (c .line) ≡ answerOf r
 
 abbrev pub EndSays : List ℕ → Cursor → behind.Behind → Type 0
-EndSays text c (behind-case.At next) = endAt (from text c) (c .line) ≡ ok tt
+EndSays text c (behind-case.At next) = (next ≡ c) × (endAt (from text c) (c .line) ≡ ok tt)
 EndSays text c (behind-case.Refused r) = endAt (from text c) (c .line) ≡ answerOf r
 
 -- ---- lists
@@ -157,65 +154,13 @@ PartSays text c (part-case.Counted k next) = PartRead text c k next
 PartSays text c (part-case.Refused r) = readList anyHeader (from text c) (c .line) ≡ answerOf r
 
 -- The right list behind a left one with these counts, whatever the left list is otherwise.
-pub record RightRead (text : List ℕ) (counts : Counts) (middle : Cursor) (p : Pair) : Type 0 where
-  pub inside : Inside text (p .next)
-  pub inputs : p .inputs ≡ counts .inputs
-  pub left : p .left ≡ counts .gates
-  pub outputs : p .outputs ≡ counts .outputs
-  pub place : p .place ≡ middle .at
+pub record RightRead (text : List ℕ) (left : Counts) (c : Cursor) (k : Counts) (next : Cursor) : Type 0 where
+  pub outputs : k .outputs ≡ left .outputs
   pub list : ListRead
-  pub listed : Listed (record { inputs = counts .inputs; gates = p .right; outputs = counts .outputs }) text (p .next) list
-  pub reads : (n : Netlist) → n .inputs ≡ counts .inputs → length (n .outs) ≡ counts .outputs → readList (likeLeft n) (from text middle) (middle .line) ≡ ok list
+  pub listed : Listed k text next list
+  pub reads : (n : Netlist) → n .inputs ≡ left .inputs → length (n .outs) ≡ left .outputs → readList (likeLeft n) (from text c) (c .line) ≡ ok list
 
-abbrev pub RightSays : List ℕ → Counts → Cursor → both.Both → Type 0
-RightSays text left middle (both-case.Paired p) = RightRead text left middle p
-RightSays text left middle (both-case.Refused r) =
-    (n : Netlist) → n .inputs ≡ left .inputs → length (n .outs) ≡ left .outputs → readList (likeLeft n) (from text middle) (middle .line) ≡ answerOf r
-
--- Both lists at the start of a text, the place of the right one, and the lines from a cursor on behind them.
-pub record BothRead (text : List ℕ) (p : Pair) : Type 0 where
-  pub inside : Inside text (p .next)
-  pub left : ListRead
-  pub right : ListRead
-  pub first : readList anyHeader (model.lines text) 1 ≡ ok left
-  pub second : readList (likeLeft (left .list)) (left .rest) (left .line) ≡ ok right
-  pub place : left .rest ≡ model.lines (drop (p .place) text)
-  pub left-listed : Listed (record { inputs = p .inputs; gates = p .left; outputs = p .outputs }) text (record { at = p .place; line = left .line }) left
-  pub right-listed : Listed (record { inputs = p .inputs; gates = p .right; outputs = p .outputs }) text (p .next) right
-
-abbrev pub BothSays : List ℕ → both.Both → Type 0
-BothSays text (both-case.Paired p) = BothRead text p
-BothSays text (both-case.Refused r) = readBoth text ≡ answerOf r
-
--- Both lists and nothing behind them, or why not.
-pub record ListsFound (text : List ℕ) (p : Pair) : Type 0 where
-  pub both : BothRead text p
-  pub alone : readLists text ≡ ok (record { left = both .left .list; right = both .right .list })
-
-abbrev pub ListsSays : List ℕ → both.Both → Type 0
-ListsSays text (both-case.Paired p) = ListsFound text p
-ListsSays text (both-case.Refused r) = readLists text ≡ answerOf r
-
--- ---- the calls' replies: counts, or a refusal
-
-abbrev pub countsReply : part.Part → Answer Counts
-countsReply (part-case.Counted k next) = ok k
-countsReply (part-case.Refused r) = answerOf r
-
-abbrev pub countsOf : Answer Netlist → Answer Counts
-countsOf a = bind a λ n. ok (record { inputs = n .inputs; gates = length (n .gates); outputs = length (n .outs) })
-
--- what two lists share, and the gates of each
-pub record PairCounts : Type 0 where
-  pub inputs : ℕ
-  pub left : ℕ
-  pub right : ℕ
-  pub outputs : ℕ
-
-abbrev pub pairReply : both.Both → Answer PairCounts
-pairReply (both-case.Paired p) = ok (record { inputs = p .inputs; left = p .left; right = p .right; outputs = p .outputs })
-pairReply (both-case.Refused r) = answerOf r
-
-abbrev pub pairOf : Answer Lists → Answer PairCounts
-pairOf a =
-    bind a λ l. ok (record { inputs = l .left .inputs; left = length (l .left .gates); right = length (l .right .gates); outputs = length (l .left .outs) })
+abbrev pub RightSays : List ℕ → Counts → Cursor → part.Part → Type 0
+RightSays text left c (part-case.Counted k next) = RightRead text left c k next
+RightSays text left c (part-case.Refused r) =
+    (n : Netlist) → n .inputs ≡ left .inputs → length (n .outs) ≡ left .outputs → readList (likeLeft n) (from text c) (c .line) ≡ answerOf r

@@ -1,17 +1,23 @@
 // Gate lists read from a text (document 01, 'Lines on the wire'; refusals 2 to 7): one list, two lists, and two lists with lines behind them.
 // Every text gets an answer. Reading goes from the top; the first fault ends it, and no more of the text is looked at.
 pub mod again; // gates and outputs of a list that was read, by their place
-pub mod lines; // the lines of a list: header, gates, outputs, and the end
-pub mod plain; // gates and outputs in a row that are known at one look
+mod lines; // the lines of a list: header, gates, outputs, and the end
+mod plain; // gates and outputs in a row that are known at one look
 
+use again::GATE_BYTES;
+use again::HEADER_BYTES;
+use again::OUTPUT_BYTES;
 use frame::Cursor;
 use lines::read_body;
 use lines::read_end;
 use lines::read_header;
 ghost use mathlib.Core.Path.{_≡_};
+ghost use Prim.Native.Nat.{_≤_};
 ghost use Rattle.frame.specs.Frames.{Inside};
-ghost use Rattle.model.specs.Lists.{readOne, readLists};
-ghost use Rattle.netlist.specs.Says.{PartSays, RightSays, BothSays, ListsSays, partRefusal, behindRefusal, countsReply, pairReply, countsOf, pairOf};
+ghost use Rattle.model.specs.Limits.{mostGates, mostOutputs};
+ghost use Rattle.model.specs.Lists.{readOne, readBoth, readLists};
+ghost use Rattle.netlist.specs.Says.{PartSays, RightSays, partRefusal, behindRefusal};
+ghost use Rattle.netlist.specs.Replies.{oneRefusal, bothRefusal, countsReply, pairReply, countsOf, bytesOf, pairBy, pairOf, bothOf};
 
 pub struct Refusal {
     pub number: u8,
@@ -34,6 +40,12 @@ pub enum Part {
 // The cursor behind what was read.
 pub enum Behind {
     At(Cursor),
+    Refused(Refusal),
+}
+
+// One list and nothing behind it.
+pub enum One {
+    Counted(Counts),
     Refused(Refusal),
 }
 
@@ -76,8 +88,32 @@ impl Behind {
     }
 }
 
+impl One {
+    // The refusal, to be handed upward.
+    pub fn refusal(self) -> Refusal
+        ensures { λ r. ⌜ r ≡ oneRefusal self ⌝ }
+    {
+        match self {
+            One::Counted(_) => Refusal { number: 0, line: 0 },
+            One::Refused(r) => r,
+        }
+    }
+}
+
+impl Both {
+    // The refusal, to be handed upward.
+    pub fn refusal(self) -> Refusal
+        ensures { λ r. ⌜ r ≡ bothRefusal self ⌝ }
+    {
+        match self {
+            Both::Paired(_) => Refusal { number: 0, line: 0 },
+            Both::Refused(r) => r,
+        }
+    }
+}
+
 // A list at a cursor.
-pub fn read_part(text: &[u8], cursor: Cursor) -> Part
+fn read_part(text: &[u8], cursor: Cursor) -> Part
     requires { ⌜ Inside (now text) cursor ⌝ }
     ensures { λ r. ⌜ PartSays (now (text .entry)) cursor r ⌝ }
 {
@@ -93,66 +129,91 @@ pub fn read_part(text: &[u8], cursor: Cursor) -> Part
 }
 
 // The right list behind a left one: its header is held to the left's before its gates are read.
-fn read_right(text: &[u8], left: Counts, middle: Cursor) -> Both
+fn read_right(text: &[u8], left: Counts, middle: Cursor) -> Part
     requires { ⌜ Inside (now text) middle ⌝ }
     ensures { λ r. ⌜ RightSays (now (text .entry)) left middle r ⌝ }
 {
     let line = middle.line;
-    let place = middle.at;
     let header = read_header(text, middle);
     let Part::Counted(counts, body) = header else {
-        return Both::Refused(header.refusal());
+        return header;
     };
     if counts.inputs != left.inputs {
-        return Both::Refused(Refusal { number: 6, line });
+        return Part::Refused(Refusal { number: 6, line });
     }
     if counts.outputs != left.outputs {
-        return Both::Refused(Refusal { number: 6, line });
+        return Part::Refused(Refusal { number: 6, line });
     }
     let behind = read_body(text, body, counts);
     let Behind::At(next) = behind else {
-        return Both::Refused(behind.refusal());
+        return Part::Refused(behind.refusal());
     };
-    Both::Paired(Pair {
-        inputs: left.inputs,
-        left: left.gates,
-        right: counts.gates,
-        outputs: left.outputs,
-        place,
-        next,
-    })
+    Part::Counted(counts, next)
 }
 
-// The left list and the right list, at the start of a text.
+// The bytes of a list: its lines have fixed lengths.
+fn list_bytes(gates: usize, outputs: usize) -> usize
+    requires { ⌜ (gates ≤ mostGates) × (outputs ≤ mostOutputs) ⌝ }
+    ensures { λ r. ⌜ r ≡ bytesOf gates outputs ⌝ }
+{
+    HEADER_BYTES + GATE_BYTES * gates + OUTPUT_BYTES * outputs
+}
+
+// Two lists by their counts, which give the places too.
+fn pair_of(left: Counts, right: usize) -> Pair
+    requires { ⌜ (left .gates ≤ mostGates) × (left .outputs ≤ mostOutputs) × (right ≤ mostGates) ⌝ }
+    ensures { λ r. ⌜ r ≡ pairBy (left .inputs) (left .gates) right (left .outputs) ⌝ }
+{
+    let gates = left.gates;
+    let outputs = left.outputs;
+    let place = list_bytes(gates, outputs);
+    let next = Cursor {
+        at: place + list_bytes(right, outputs),
+        line: 3 + gates + right + 2 * outputs,
+    };
+    Pair {
+        inputs: left.inputs,
+        left: gates,
+        right,
+        outputs,
+        place,
+        next,
+    }
+}
+
+// The checker's text: the left list and the right list, and whatever stands behind them.
 pub fn read_both(text: &[u8]) -> Both
-    ensures { λ r. ⌜ BothSays (now (text .entry)) r ⌝ }
+    ensures { λ r. ⌜ pairReply r ≡ bothOf (readBoth (now (text .entry))) ⌝ }
 {
     let left = read_part(text, Cursor { at: 0, line: 1 });
     let Part::Counted(counts, middle) = left else {
         return Both::Refused(left.refusal());
     };
-    read_right(text, counts, middle)
+    let right = read_right(text, counts, middle);
+    let Part::Counted(other, _) = right else {
+        return Both::Refused(right.refusal());
+    };
+    Both::Paired(pair_of(counts, other.gates))
 }
 
 // The evaluator's text: one list, and nothing behind it.
-pub fn read_list(text: &[u8]) -> Part
+pub fn read_list(text: &[u8]) -> One
     ensures { λ r. ⌜ countsReply r ≡ countsOf (readOne (now (text .entry))) ⌝ }
 {
     let list = read_part(text, Cursor { at: 0, line: 1 });
     let Part::Counted(counts, next) = list else {
-        return list;
+        return One::Refused(list.refusal());
     };
     let end = read_end(text, next);
     let Behind::At(_) = end else {
-        return Part::Refused(end.refusal());
+        return One::Refused(end.refusal());
     };
-    Part::Counted(counts, next)
+    One::Counted(counts)
 }
 
 // The engine's text: two lists, and nothing behind them.
 pub fn read_lists(text: &[u8]) -> Both
-    ensures replies { λ r. ⌜ pairReply r ≡ pairOf (readLists (now (text .entry))) ⌝ }
-    ensures finds { λ r. ⌜ ListsSays (now (text .entry)) r ⌝ }
+    ensures { λ r. ⌜ pairReply r ≡ pairOf (readLists (now (text .entry))) ⌝ }
 {
     let both = read_both(text);
     let Both::Paired(pair) = both else {

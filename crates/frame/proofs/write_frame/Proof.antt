@@ -1,6 +1,6 @@
 -- The buffer is cleared first, so that both refusals leave zeros and a written line has zeros behind it; the ways of writing are in
 -- `WriteLaws`.
-use mathlib.Core.Path.{sym, ap, _∙_}
+use mathlib.Core.Path.{refl, sym, ap, _∙_}
 use native.Mathlib.Nat.{zero-add}
 use native.Mathlib.Omega.{arith}
 use borrow.Author.Tests.{not-true, not-false}
@@ -8,19 +8,20 @@ use Prim.Native.Nat.{ℕ}
 use denote.Ref.{now}
 use lib.ListN.{length, length-replicate}
 use Rattle.frame.specs.Frames.{frameOf}
+use Rattle.frame.proofs.ClearLaws.{cleared}
 use Rattle.frame.proofs.WriteLaws.{write-unfit, write-short, write-done}
 use borrow.Author.Needs.{needs}
 use Rattle.frame.proofs.write_frame.Statement.{statement}
 use Rattle.frame.proofs.write_frame.Tie as tie
 use Rattle.frame.proofs.write_frame.Reads as reads
 use Rattle.frame.proofs.write_frame.Lts as lts
-use Rattle.frame.proofs.fields.clear.Reads as clear-reads
+use Rattle.frame.proofs.fields.clear_from.Reads as clear-from-reads
 use Rattle.frame.proofs.fields.line_len.Reads as line-len-reads
 use Rattle.frame.proofs.fields.line_number_fits.Reads as line-number-fits-reads
 use Rattle.frame.proofs.fields.write_line.Reads as write-line-reads
 
-clear-requires : tie.Need-clear-requires
-clear-requires c κs = search needs
+clear-from-requires : tie.Need-clear-from-requires
+clear-from-requires c κs = search needs
 
 line-number-fits-requires : tie.Need-line-number-fits-requires
 line-number-fits-requires c κs = search needs
@@ -31,7 +32,7 @@ same-length c = search needs
 returns : tie.Need-returns
 returns c =
     let a = c .before .before .before .before .before .before .before .args in
-    write-unfit (frameOf (a .frame)) (length (now (a .out))) (sym (c .before .line-number-fits .ensures) ∙ not-true _ (c .if1 .taken)) (c .before .before .before .before .clear .ensures)
+    write-unfit (frameOf (a .frame)) (length (now (a .out))) (sym (c .before .line-number-fits .ensures) ∙ not-true _ (c .if1 .taken)) (cleared (now (a .out)) _ _ refl (c .before .before .before .before .clear-from .ensures))
 
 line-len-requires : tie.Need-line-len-requires
 line-len-requires c κs = search needs
@@ -42,7 +43,8 @@ same-length-2 c = search needs
 returns-2 : tie.Need-returns-2
 returns-2 c =
     let a = c .before .before .before .before .before .before .before .before .before .args in
-    write-short (frameOf (a .frame)) (length (now (a .out))) (omega (arith, c .before .line-len .ensures, ap length (c .before .before .before .before .before .before .clear .ensures), length-replicate {A = ℕ} (length (now (a .out))) 0)) (c .before .before .before .before .before .before .clear .ensures)
+    let zeroed = cleared (now (a .out)) _ _ refl (c .before .before .before .before .before .before .clear-from .ensures) in
+    write-short (frameOf (a .frame)) (length (now (a .out))) (omega (arith, c .before .line-len .ensures, ap length zeroed, length-replicate {A = ℕ} (length (now (a .out))) 0)) zeroed
 
 write-line-requires : tie.Need-write-line-requires
 write-line-requires c κs = search needs
@@ -53,19 +55,19 @@ same-length-3 c = search needs
 returns-3 : tie.Need-returns-3
 returns-3 c =
     let a = c .before .before .before .before .before .before .before .before .before .before .before .before .before .args in
-    let cleared = c .before .before .before .before .before .before .before .before .before .before .clear .ensures in
+    let zeroed = cleared (now (a .out)) _ _ refl (c .before .before .before .before .before .before .before .before .before .before .clear-from .ensures) in
     let w = c .before .before .write-line in
     write-done (frameOf (a .frame)) (length (now (a .out)))
     (sym (c .before .before .before .before .before .before .before .line-number-fits .ensures) ∙ not-false _ (c .before .before .before .before .before .before .if1 .left))
-    (omega (arith, c .before .before .before .before .before .line-len .ensures, ap length cleared, length-replicate {A = ℕ} (length (now (a .out))) 0))
+    (omega (arith, c .before .before .before .before .before .line-len .ensures, ap length zeroed, length-replicate {A = ℕ} (length (now (a .out))) 0))
     (w .ensures .0 ∙ zero-add _)
-    (rw cleared at (w .ensures .1))
+    (rw zeroed at (w .ensures .1))
 
 pub write-frame-spec : {M : Type 1} → statement M
 write-frame-spec =
     tie.close
     (tie.spec
-    clear-requires
+    clear-from-requires
     line-number-fits-requires
     same-length
     returns

@@ -1,12 +1,13 @@
--- The left list's answer and then the right one's (`ListLaws`).
+-- The left list's answer, then the right one's, and the pair of their counts (`ListLaws`).
 use denote.Ref.{now}
-use Rattle.netlist.proofs.ListLaws.{left-refused, both-says}
+use Rattle.netlist.proofs.ListLaws.{left-refused, right-refused-both, few, few-right, both-paired}
 use borrow.Author.Needs.{needs}
 use Rattle.netlist.proofs.read_both.Statement.{statement}
 use Rattle.netlist.proofs.read_both.Tie as tie
 use Rattle.netlist.proofs.read_both.Reads as reads
 use Rattle.netlist.proofs.read_both.Lts as lts
 use Rattle.netlist.proofs.Part.refusal.Reads as refusal-reads
+use Rattle.netlist.proofs.pair_of.Reads as pair-of-reads
 use Rattle.netlist.proofs.read_part.Reads as read-part-reads
 use Rattle.netlist.proofs.read_right.Reads as read-right-reads
 
@@ -24,17 +25,42 @@ refusal-requires c κs = search needs
 
 returns : tie.Need-returns
 returns c =
-    let a = c .before .before .before .before .before .args in
     let is = c .before .enum-told .given .1 in
-    rw (c .refusal .ensures, is) (left-refused (now (a .text)) _ (rw is at (c .before .before .before .read-part .ensures)))
+    rw (c .refusal .ensures, is) (left-refused (now (c .before .before .before .before .before .args .text)) _ (rw is at (c .before .before .before .read-part .ensures)))
 
 read-right-requires : tie.Need-read-right-requires
 read-right-requires c κs = (rw (c .before .left .given .1) at (c .before .before .before .read-part .ensures)) .inside
 
+enum-known-right : tie.Need-enum-known-right
+enum-known-right c = search needs
+
+enum-told-2 : tie.Need-enum-told-2
+enum-told-2 c = search needs
+
+refusal-requires-2 : tie.Need-refusal-requires-2
+refusal-requires-2 c κs = search needs
+
 returns-2 : tie.Need-returns-2
 returns-2 c =
-    let a = c .before .before .before .before .before .before .args in
-    both-says (now (a .text)) _ _ (rw (c .before .before .left .given .1) at (c .before .before .before .before .read-part .ensures)) (c .read-right .result) (c .read-right .ensures)
+    let text = now (c .before .before .before .before .before .before .before .before .before .args .text) in
+    let left = rw (c .before .before .before .before .before .left .given .1) at (c .before .before .before .before .before .before .before .read-part .ensures) in
+    let is = c .before .enum-told2 .given .1 in
+    rw (c .refusal2 .ensures, is) (right-refused-both text _ _ left _ (rw is at (c .before .before .before .read-right .ensures)))
+
+pair-of-requires : tie.Need-pair-of-requires
+pair-of-requires c κs =
+    let text = now (c .before .before .before .before .before .before .before .before .before .args .text) in
+    let left = rw (c .before .before .before .before .before .left .given .1) at (c .before .before .before .before .before .before .before .read-part .ensures) in
+    let right = rw (c .before .right .given .1) at (c .before .before .before .read-right .ensures) in
+    let f = few text _ _ left in
+    (f .0, f .1, few-right text _ _ left _ _ right)
+
+returns-3 : tie.Need-returns-3
+returns-3 c =
+    let text = now (c .before .before .before .before .before .before .before .before .before .before .args .text) in
+    let left = rw (c .before .before .before .before .before .before .left .given .1) at (c .before .before .before .before .before .before .before .before .read-part .ensures) in
+    let right = rw (c .before .before .right .given .1) at (c .before .before .before .before .read-right .ensures) in
+    rw (c .pair-of .ensures) (both-paired text _ _ left _ _ right)
 
 pub read-both-spec : {M : Type 1} → statement M
 read-both-spec =
@@ -46,4 +72,9 @@ read-both-spec =
     refusal-requires
     returns
     read-right-requires
-    returns-2)
+    enum-known-right
+    enum-told-2
+    refusal-requires-2
+    returns-2
+    pair-of-requires
+    returns-3)

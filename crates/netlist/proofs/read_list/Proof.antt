@@ -6,7 +6,8 @@ use Rattle.netlist.proofs.read_list.Statement.{statement}
 use Rattle.netlist.proofs.read_list.Tie as tie
 use Rattle.netlist.proofs.read_list.Reads as reads
 use Rattle.netlist.proofs.read_list.Lts as lts
-use Rattle.netlist.proofs.Behind.refusal.Reads as refusal-reads
+use Rattle.netlist.proofs.Behind.refusal.Reads as Behind-refusal-reads
+use Rattle.netlist.proofs.Part.refusal.Reads as Part-refusal-reads
 use Rattle.netlist.proofs.lines.read_end.Reads as read-end-reads
 use Rattle.netlist.proofs.read_part.Reads as read-part-reads
 
@@ -19,11 +20,13 @@ enum-known-list c = search needs
 enum-told : tie.Need-enum-told
 enum-told c = search needs
 
+refusal-requires : tie.Need-refusal-requires
+refusal-requires c κs = search needs
+
 returns : tie.Need-returns
 returns c =
-    let a = c .before .before .before .before .args in
-    let is = c .enum-told .given .1 in
-    rw is (one-refused (now (a .text)) _ (rw is at (c .before .before .read-part .ensures)))
+    let is = c .before .enum-told .given .1 in
+    rw (c .refusal .ensures, is) (one-refused (now (c .before .before .before .before .before .args .text)) _ (rw is at (c .before .before .before .read-part .ensures)))
 
 read-end-requires : tie.Need-read-end-requires
 read-end-requires c κs = (rw (c .before .list .given .1) at (c .before .before .before .read-part .ensures)) .inside
@@ -34,21 +37,20 @@ enum-told-2 c = search needs
 enum-told-3 : tie.Need-enum-told-3
 enum-told-3 c = search needs
 
-refusal-requires : tie.Need-refusal-requires
-refusal-requires c κs = search needs
+refusal-requires-2 : tie.Need-refusal-requires-2
+refusal-requires-2 c κs = search needs
 
 returns-2 : tie.Need-returns-2
 returns-2 c =
-    let a = c .before .before .before .before .before .before .before .before .before .args in
-    let l = rw (c .before .before .before .before .before .list .given .1) at (c .before .before .before .before .before .before .before .read-part .ensures) in
+    let list = rw (c .before .before .before .before .before .list .given .1) at (c .before .before .before .before .before .before .before .read-part .ensures) in
     let is = c .before .enum-told3 .given .1 in
-    rw (c .refusal .ensures, is) (one-more (now (a .text)) _ _ l _ (rw is at (c .before .before .before .read-end .ensures)))
+    rw (c .refusal2 .ensures, is) (one-more (now (c .before .before .before .before .before .before .before .before .before .args .text)) _ _ list _ (rw is at (c .before .before .before .read-end .ensures)))
 
 returns-3 : tie.Need-returns-3
 returns-3 c =
-    let a = c .before .before .before .before .before .before .before .before .args in
-    let l = rw (c .before .before .before .before .list .given .1) at (c .before .before .before .before .before .before .read-part .ensures) in
-    one-read (now (a .text)) _ _ l (rw (c .enum-told2 .given .1) at (c .before .before .read-end .ensures))
+    let list = rw (c .before .before .before .before .list .given .1) at (c .before .before .before .before .before .before .read-part .ensures) in
+    let end = rw (c .enum-told2 .given .1) at (c .before .before .read-end .ensures) in
+    one-read (now (c .before .before .before .before .before .before .before .before .args .text)) _ _ list (end .1)
 
 pub read-list-spec : {M : Type 1} → statement M
 read-list-spec =
@@ -57,10 +59,11 @@ read-list-spec =
     read-part-requires
     enum-known-list
     enum-told
+    refusal-requires
     returns
     read-end-requires
     enum-told-2
     enum-told-3
-    refusal-requires
+    refusal-requires-2
     returns-2
     returns-3)

@@ -1,8 +1,7 @@
 -- Both lists' answer and then the end's (`ListLaws`).
-use mathlib.Core.Path.{sym, ap, _∙_}
 use denote.Ref.{now}
-use Rattle.netlist.specs.Says.{pairOf}
-use Rattle.netlist.proofs.ListLaws.{lists-refused, lists-more, lists-alone, pair-counts}
+use Rattle.netlist.proofs.ReplyLaws.{both-lists}
+use Rattle.netlist.proofs.ListLaws.{lists-refused, lists-more, lists-alone}
 use borrow.Author.Needs.{needs}
 use Rattle.netlist.proofs.read_lists.Statement.{statement}
 use Rattle.netlist.proofs.read_lists.Tie as tie
@@ -23,13 +22,11 @@ enum-told c = search needs
 
 returns : tie.Need-returns
 returns c =
-    let a = c .before .before .before .before .args in
     let is = c .enum-told .given .1 in
-    let e = lists-refused (now (a .text)) _ (rw is at (c .before .before .read-both .ensures)) in
-    rw is (sym (ap pairOf e), e)
+    rw is (lists-refused (now (c .before .before .before .before .args .text)) _ (rw is at (c .before .before .read-both .ensures)))
 
 read-end-requires : tie.Need-read-end-requires
-read-end-requires c κs = (rw (c .before .before .both .given .1) at (c .before .before .before .before .read-both .ensures)) .inside
+read-end-requires c κs = both-lists (now (c .before .before .before .before .before .before .args .text)) _ (rw (c .before .before .both .given .1) at (c .before .before .before .before .read-both .ensures)) .inside
 
 enum-told-2 : tie.Need-enum-told-2
 enum-told-2 c = search needs
@@ -42,18 +39,15 @@ refusal-requires c κs = search needs
 
 returns-2 : tie.Need-returns-2
 returns-2 c =
-    let a = c .before .before .before .before .before .before .before .before .before .before .args in
-    let l = rw (c .before .before .before .before .before .before .both .given .1) at (c .before .before .before .before .before .before .before .before .read-both .ensures) in
+    let both = rw (c .before .before .before .before .before .before .both .given .1) at (c .before .before .before .before .before .before .before .before .read-both .ensures) in
     let is = c .before .enum-told3 .given .1 in
-    let e = lists-more (now (a .text)) _ l _ (rw is at (c .before .before .before .read-end .ensures)) in
-    rw (c .refusal .ensures, is) (sym (ap pairOf e), e)
+    rw (c .refusal .ensures, is) (lists-more (now (c .before .before .before .before .before .before .before .before .before .before .args .text)) _ both _ (rw is at (c .before .before .before .read-end .ensures)))
 
 returns-3 : tie.Need-returns-3
 returns-3 c =
-    let a = c .before .before .before .before .before .before .before .before .before .args in
-    let l = rw (c .before .before .before .before .before .both .given .1) at (c .before .before .before .before .before .before .before .read-both .ensures) in
-    let e = lists-alone (now (a .text)) _ l (rw (c .enum-told2 .given .1) at (c .before .before .read-end .ensures)) in
-    (pair-counts (now (a .text)) _ l ∙ sym (ap pairOf e), record { both = l; alone = e })
+    let both = rw (c .before .before .before .before .before .both .given .1) at (c .before .before .before .before .before .before .before .read-both .ensures) in
+    let end = rw (c .enum-told2 .given .1) at (c .before .before .read-end .ensures) in
+    lists-alone (now (c .before .before .before .before .before .before .before .before .before .args .text)) _ both (end .1)
 
 pub read-lists-spec : {M : Type 1} → statement M
 read-lists-spec =

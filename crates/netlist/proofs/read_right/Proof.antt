@@ -7,8 +7,7 @@ use Rattle.netlist.proofs.read_right.Statement.{statement}
 use Rattle.netlist.proofs.read_right.Tie as tie
 use Rattle.netlist.proofs.read_right.Reads as reads
 use Rattle.netlist.proofs.read_right.Lts as lts
-use Rattle.netlist.proofs.Behind.refusal.Reads as Behind-refusal-reads
-use Rattle.netlist.proofs.Part.refusal.Reads as Part-refusal-reads
+use Rattle.netlist.proofs.Behind.refusal.Reads as refusal-reads
 use Rattle.netlist.proofs.lines.read_body.Reads as read-body-reads
 use Rattle.netlist.proofs.lines.read_header.Reads as read-header-reads
 
@@ -21,13 +20,10 @@ enum-known-header c = search needs
 enum-told : tie.Need-enum-told
 enum-told c = search needs
 
-refusal-requires : tie.Need-refusal-requires
-refusal-requires c κs = search needs
-
 returns : tie.Need-returns
 returns c =
-    let is = c .before .enum-told .given .1 in
-    λ n i o. rw (c .refusal .ensures, is) ((rw is at (c .before .before .before .read-header .ensures)) (likeLeft n))
+    let is = c .enum-told .given .1 in
+    rw is (λ n i o. (rw is at (c .before .before .read-header .ensures)) (likeLeft n))
 
 returns-2 : tie.Need-returns-2
 returns-2 c =
@@ -50,14 +46,14 @@ enum-known-behind c = search needs
 enum-told-2 : tie.Need-enum-told-2
 enum-told-2 c = search needs
 
-refusal-requires-2 : tie.Need-refusal-requires-2
-refusal-requires-2 c κs = search needs
+refusal-requires : tie.Need-refusal-requires
+refusal-requires c κs = search needs
 
 returns-4 : tie.Need-returns-4
 returns-4 c =
     let a = c .before .before .before .before .before .before .before .before .before .before .before .before .before .before .before .args in
     let is = c .before .enum-told2 .given .1 in
-    rw (c .refusal2 .ensures, is)
+    rw (c .refusal .ensures, is)
     (right-refused (now (a .text)) (a .left) (a .middle) _ _ (rw (c .before .before .before .before .before .before .before .before .before .before .before .header .given .1) at (c .before .before .before .before .before .before .before .before .before .before .before .before .before .read-header .ensures)) (c .before .before .before .before .before .before .before .if1 .left) (c .before .before .before .before .if2 .left) _ (rw is at (c .before .before .before .read-body .ensures)))
 
 returns-5 : tie.Need-returns-5
@@ -72,13 +68,12 @@ read-right-spec =
     read-header-requires
     enum-known-header
     enum-told
-    refusal-requires
     returns
     returns-2
     returns-3
     read-body-requires
     enum-known-behind
     enum-told-2
-    refusal-requires-2
+    refusal-requires
     returns-4
     returns-5)

@@ -1,4 +1,5 @@
 -- Each arm knows what the reader found, and that is the case of the definition (`LineLaws`).
+use mathlib.Core.Path.{refl}
 use denote.Ref.{now}
 use Rattle.netlist.proofs.LineLaws.{end-none, end-refused, end-more}
 use borrow.Author.Needs.{needs}
@@ -24,7 +25,7 @@ returns : tie.Need-returns
 returns c =
     let a = c .before .before .before .before .args in
     let one = c .before .before .read-line in
-    end-none (now (a .text)) (a .cursor) (one .result) (one .ensures .0) (c .enum-told .given .1)
+    (refl, end-none (now (a .text)) (a .cursor) (one .result) (one .ensures .0) (c .enum-told .given .1))
 
 returns-2 : tie.Need-returns-2
 returns-2 c =
