@@ -20,7 +20,8 @@ use Rattle.checker.specs.Verdicts.{Counted, countedOf}
 use Rattle.frame.specs.declared.fields.Fields.{Fields}
 use Rattle.frame.specs.Frames.{Spells}
 use Rattle.netlist.specs.declared.Counts.{Counts}
-use Rattle.netlist.specs.Says.{PairCounts, countsOf, pairOf}
+use Rattle.netlist.specs.declared.Pair.{Pair}
+use Rattle.netlist.specs.Replies.{countsOf, pairOf}
 use Rattle.cec_abi.specs.Replies.{frameReply, listReply, listsReply, checkReply}
 
 -- ---- a frame
@@ -56,7 +57,7 @@ pub uncounted : (number line : ℕ) (a : Answer Netlist) → refused number line
 uncounted number line (ok n) e = cc
 uncounted number line (refused m l) e = cc
 
-pub paired : (p : PairCounts) (a : Answer Lists) → ok p ≡ pairOf a → 0 ∷ 0 ∷ p .inputs ∷ p .left ∷ p .right ∷ p .outputs ∷ [] ≡ listsReply a
+pub paired : (p : Pair) (a : Answer Lists) → ok p ≡ pairOf a → 0 ∷ 0 ∷ p .inputs ∷ p .left ∷ p .right ∷ p .outputs ∷ [] ≡ listsReply a
 paired p (ok l) e = cc
 paired p (refused number line) e = cc
 

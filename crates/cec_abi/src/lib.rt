@@ -7,7 +7,7 @@ use engine::prove;
 use evaluator::evaluate;
 use frame::Decoded;
 use frame::Written;
-use frame::fields::clear;
+use frame::fields::clear_bytes;
 use frame::read_frame;
 use frame::write_frame;
 use netlist::read_list;
@@ -49,7 +49,7 @@ fn write_answer(answer: Decoded, out: &mut [u8]) -> Written
     match answer {
         Decoded::Framed(frame) => write_frame(frame, out),
         Decoded::Fault { number, line } => {
-            clear(out);
+            clear_bytes(out, 0);
             Written::Unwritten { number, line }
         }
     }

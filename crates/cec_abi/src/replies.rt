@@ -8,12 +8,12 @@ use frame::Written;
 use frame::fields::Fields;
 use frame::fields::fields_of;
 use netlist::Both;
-use netlist::Part;
+use netlist::One;
 ghost use mathlib.Core.Path.{_≡_};
 ghost use Prim.Native.Nat.{_<_};
 ghost use lib.ListN.{getD, take};
 ghost use Rattle.frame.specs.Frames.{frameOf, decodedOf, writtenOf};
-ghost use Rattle.netlist.specs.Says.{countsReply, countsOf, pairReply, pairOf};
+ghost use Rattle.netlist.specs.Replies.{countsReply, countsOf, pairReply, pairOf};
 ghost use Rattle.evaluator.specs.Values.{evaluatedOf};
 ghost use Rattle.checker.specs.Verdicts.{checkedOf, countedOf};
 ghost use Rattle.engine.specs.Replies.{provedOf};
@@ -69,17 +69,17 @@ pub fn write_reply(answer: Written) -> [u64; 3]
 }
 
 // The reply of every reading of a list that comes to these counts or to this refusal.
-pub fn list_reply(answer: Part) -> [u64; 5]
+pub fn list_reply(answer: One) -> [u64; 5]
     ensures { λ r. ⌜ ((a : Answer Netlist) → countsReply answer ≡ countsOf a → r ≡ listReply a) ⌝ }
 {
     match answer {
-        Part::Counted(counts, _) => {
+        One::Counted(counts) => {
             let inputs = counts.inputs as u64;
             let gates = counts.gates as u64;
             let outputs = counts.outputs as u64;
             [0, 0, inputs, gates, outputs]
         }
-        Part::Refused(refusal) => [refusal.number as u64, refusal.line as u64, 0, 0, 0],
+        One::Refused(refusal) => [refusal.number as u64, refusal.line as u64, 0, 0, 0],
     }
 }
 

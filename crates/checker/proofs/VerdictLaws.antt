@@ -13,54 +13,44 @@ use Rattle.model.specs.Answers.Answer.{ok, refused}
 use Rattle.model.specs.Limits.{clauseWidth, mostClauses}
 use Rattle.model.specs.Lines.{Line}
 use Rattle.model.specs.Nets.{Netlist}
-use Rattle.model.specs.Lists.{ListsRead, Lists, readBoth, anyHeader, likeLeft}
+use Rattle.model.specs.Lists.{Lists, readBoth}
 use Rattle.model.specs.Miter.{miter}
 use Rattle.model.specs.Steps.{State, replay}
 use Rattle.model.specs.Checker.{begin, verdictOn, capacity, check, storedAll}
-use Rattle.laws.specs.Reading.{both-good}
-use Rattle.laws.specs.ListText.{Stands, listText, list-length, list-stands}
+use Rattle.laws.specs.ListText.{Stands, listText, list-length}
 use Rattle.netlist.proofs.Both as both-type
 use Rattle.netlist.specs.declared.Pair.{Pair}
 use Rattle.netlist.specs.declared.Both.{Both}
 use Rattle.netlist.specs.declared.Both.the-variants.{Paired, Refused}
-use Rattle.netlist.specs.Says.{BothRead, BothSays, from}
+use Rattle.netlist.specs.Says.{from}
+use Rattle.netlist.specs.Replies.{bothRefusal, pairReply, bothOf}
+use Rattle.netlist.proofs.ReplyLaws.{BothLists, both-none}
 use Rattle.steps.specs.declared.Progress.{Progress}
 use Rattle.steps.specs.Progress.{Tracks}
 use Rattle.steps.proofs.HeldLaws.{all-width}
 use Rattle.miter.specs.Miters as miters
 use Rattle.miter.specs.Miters.{beginOf}
-use Rattle.checker.specs.Verdicts.{bothRefusal}
 
 -- ---- the lists
-
-abbrev pub readOf : {text : List ℕ} {p : Pair} → BothRead text p → ListsRead
-readOf b = record { lists = record { left = b .left .list; right = b .right .list }; rest = b .right .rest; line = b .right .line }
-
-pub read-is : {text : List ℕ} {p : Pair} (b : BothRead text p) → readBoth text ≡ ok (readOf b)
-unfolding readBoth
-read-is b = rw (b .first, b .second)
 
 -- a list has bytes, so its place is in the text
 pub stands-inside : (text : List ℕ) (place : ℕ) (n : Netlist) → Stands (drop place text) n → place ≤ length text
 stands-inside text place n s =
     omega (arith, length-drop place text, ap length (s .text), length-append (listText n) (s .rest), list-length n)
 
-abbrev pub lists-of : {text : List ℕ} {p : Pair} → BothRead text p → miters.Lists text p
-lists-of {text} {p} b =
-    let right : Stands (drop (p .place) text) (b .right .list) =
-    list-stands (likeLeft (b .left .list)) (drop (p .place) text) (b .left .line) (b .right) (rw (sym (b .place)) (b .second)) .stands in
-    record {
-      left = b .left .list;
-      right = b .right .list;
-      alike = both-good text (readOf b) (read-is b);
-      left-stands = list-stands anyHeader text 1 (b .left) (b .first) .stands;
-      right-stands = right;
-      place = stands-inside text (p .place) (b .right .list) right;
-      inputs = b .left-listed .inputs;
-      left-gates = b .left-listed .gates;
-      right-gates = b .right-listed .gates;
-      outputs = b .left-listed .outputs;
-    }
+abbrev pub lists-of : {text : List ℕ} {p : Pair} → BothLists text p → miters.Lists text p
+lists-of {text} {p} b = record {
+  left = b .read .lists .left;
+  right = b .read .lists .right;
+  alike = b .alike;
+  left-stands = b .left-stands;
+  right-stands = b .right-stands;
+  place = stands-inside text (p .place) (b .read .lists .right) (b .right-stands);
+  inputs = b .inputs;
+  left-gates = b .left-gates;
+  right-gates = b .right-gates;
+  outputs = b .outputs;
+}
 
 -- ---- the verdict
 
@@ -80,18 +70,18 @@ by-begin room l ls line = go (leb (length (miter (l .left) (l .right))) room)
     go true = refl
     go false = refl
 
-module _ {text : List ℕ} {p : Pair} (b : BothRead text p) (n room : ℕ) (is : room ≡ capacity n) where
-  check-is : check text n ≡ bind (beginOf room (b .left .list) (b .right .list)) (ending room (from text (p .next)) (p .next .line))
-  unfolding check
-  check-is =
-      rw (read-is b, sym is)
-      (by-begin room (record { left = b .left .list; right = b .right .list }) (b .right .rest) (b .right .line)
-      ∙ rw (b .right-listed .rest, b .right-listed .line))
+module _ {text : List ℕ} {p : Pair} (b : BothLists text p) (n room : ℕ) (is : room ≡ capacity n) where
+  abbrev begun-as : Answer State
+  begun-as = beginOf room (b .read .lists .left) (b .read .lists .right)
 
-  pub begin-refused : (number line : ℕ) → beginOf room (b .left .list) (b .right .list) ≡ refused number line → check text n ≡ refused number line
+  check-is : check text n ≡ bind begun-as (ending room (from text (p .next)) (p .next .line))
+  unfolding check
+  check-is = rw (b .reads, sym is) (by-begin room (b .read .lists) (b .read .rest) (b .read .line) ∙ rw (b .rest, b .line))
+
+  pub begin-refused : (number line : ℕ) → begun-as ≡ refused number line → check text n ≡ refused number line
   begin-refused number line e = check-is ∙ rw e
 
-  module _ (s₀ : State) (begun : beginOf room (b .left .list) (b .right .list) ≡ ok s₀) where
+  module _ (s₀ : State) (begun : begun-as ≡ ok s₀) where
     pub replay-refused : (number line : ℕ) → replay room s₀ (from text (p .next)) (p .next .line) ≡ refused number line
         → check text n ≡ refused number line
     replay-refused number line e = check-is ∙ rw (begun, e)
@@ -108,11 +98,11 @@ module _ {text : List ℕ} {p : Pair} (b : BothRead text p) (n room : ℕ) (is :
     accepted s e f = replayed s e ∙ rw f
 
 -- where the lists are refused
-pub unread : (text : List ℕ) (n : ℕ) (got : Both) → BothSays text got → OneOf (1 ∷ []) (tagOf both-type.the-type got)
+pub unread : (text : List ℕ) (n : ℕ) (got : Both) → pairReply got ≡ bothOf (readBoth text) → OneOf (1 ∷ []) (tagOf both-type.the-type got)
     → check text n ≡ refused (bothRefusal got .number) (bothRefusal got .line)
 unfolding check
-unread text n (Paired p) b k = absurd (miss (1 ∷ []) 0 tt k)
-unread text n (Refused r) b k = rw b
+unread text n (Paired p) e k = absurd (miss (1 ∷ []) 0 tt k)
+unread text n (Refused r) e k = rw (both-none text (r .number) (r .line) e)
 
 -- ---- the store afterwards
 
@@ -127,8 +117,3 @@ kept store p s t =
 pub kept-as : (store last : List ℕ) (p : Progress) (s : State) (n : ℕ) → Tracks store p s → length store ≡ n
     → last ≡ take (clauseWidth * p .clauses) store ++ zeros (length store - clauseWidth * p .clauses) → last ≡ filled n (storedAll (s .clauses))
 kept-as store last p s n t e is = is ∙ kept store p s t ∙ rw e
-
-pub cleared : (store last : List ℕ) (n : ℕ) → length store ≡ n → last ≡ take 0 store ++ zeros (length store - 0) → last ≡ zeros n
-cleared store last n e is =
-    let all : length store - 0 ≡ n = omega arith in
-    is ∙ rw all

@@ -8,20 +8,12 @@ use Rattle.model.specs.Answers.{Answer, bind}
 use Rattle.model.specs.Answers.Answer.{ok, refused}
 use Rattle.model.specs.Steps.{State}
 use Rattle.laws.specs.Soundness.{AgreeingLists}
-use Rattle.netlist.specs.declared.Refusal.{Refusal}
-use Rattle.netlist.specs.declared.Both.{Both}
-use Rattle.netlist.specs.declared.Both.the-variants as both-case
 use Rattle.steps.specs.declared.Stepped.{Stepped}
 use Rattle.steps.specs.declared.Stepped.the-variants.{Done, Refused}
 use Rattle.checker.specs.declared.Checked.{Checked}
 use Rattle.checker.specs.declared.Checked.the-variants as checked-case
 use Rattle.checker.specs.declared.Checked.the-variants.{Accepted}
 use Rattle.steps.specs.Progress.{Tracks}
-
--- the refusal that an answer holds; where it holds none, nothing is said
-abbrev pub bothRefusal : Both → Refusal
-bothRefusal (both-case.Paired p) = record { number = 0; line = 0 }
-bothRefusal (both-case.Refused r) = r
 
 -- the state at the end, which the store stands for, or the same refusal
 abbrev pub VerdictSays : Answer State → List ℕ → Stepped → Type 0

@@ -1,8 +1,8 @@
 // The checker (document 01, 'Steps'): a text of two lists and a proof, and a lent clause store. Every text gets a reply: the counts of an
 // accepted proof, or a refusal with its place.
 pub mod clearing; // zeros behind the clauses
-pub mod replay; // all lines of a proof
-pub mod verdict; // the verdict, with the clauses left in the store
+mod replay; // all lines of a proof
+mod verdict; // the verdict, with the clauses left in the store
 
 use clause::Clause;
 use clearing::clear_from;

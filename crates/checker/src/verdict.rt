@@ -9,7 +9,7 @@ use steps::Stepped;
 ghost use mathlib.Core.Path.{_≡_};
 ghost use lib.ListN.{length};
 ghost use Rattle.model.specs.Checker as model;
-ghost use Rattle.checker.specs.Verdicts.{bothRefusal, VerdictSays};
+ghost use Rattle.checker.specs.Verdicts.{VerdictSays};
 
 pub const MOST_CLAUSES: usize = 65535;
 
@@ -24,16 +24,6 @@ fn capacity(numbers: usize) -> usize
     eights
 }
 
-// The refusal of two lists, to be handed upward.
-pub fn refusal(lists: Both) -> Refusal
-    ensures { λ r. ⌜ r ≡ bothRefusal lists ⌝ }
-{
-    match lists {
-        Both::Paired(_) => Refusal { number: 0, line: 0 },
-        Both::Refused(r) => r,
-    }
-}
-
 // The verdict, with the clauses left in the store.
 pub fn verdict(text: &[u8], store: &mut [u16]) -> Stepped
     ensures { λ r. ⌜ VerdictSays (model.check (now (text .entry)) (length (now (store .entry)))) (now (store .exit)) r ⌝ }
@@ -41,7 +31,7 @@ pub fn verdict(text: &[u8], store: &mut [u16]) -> Stepped
     let room = capacity(store.len());
     let lists = read_both(text);
     let Both::Paired(pair) = lists else {
-        return Stepped::Refused(refusal(lists));
+        return Stepped::Refused(lists.refusal());
     };
     let begun = begin(text, pair, store, room);
     let Stepped::Done(start) = begun else {

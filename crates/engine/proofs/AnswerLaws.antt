@@ -20,8 +20,8 @@ use Rattle.netlist.specs.declared.Pair.{Pair}
 use Rattle.netlist.proofs.Both as both-type
 use Rattle.netlist.specs.declared.Both.{Both}
 use Rattle.netlist.specs.declared.Both.the-variants.{Paired, Refused}
-use Rattle.netlist.specs.Says.{ListsFound, ListsSays}
-use Rattle.checker.specs.Verdicts.{bothRefusal}
+use Rattle.netlist.specs.Replies.{bothRefusal, pairReply, pairOf}
+use Rattle.netlist.proofs.ReplyLaws.{TwoLists, two-none}
 use Rattle.checker.proofs.VerdictLaws.{lists-of}
 use Rattle.engine.specs.declared.Proved.{Proved}
 use Rattle.engine.specs.declared.Proved.the-variants as proved
@@ -66,13 +66,13 @@ unfolding provable due
 of-text text bytes numbers = refl
 
 -- where the lists are refused
-pub unread : (text : List ℕ) (bytes numbers : ℕ) (got : Both) → ListsSays text got → OneOf (1 ∷ []) (tagOf both-type.the-type got)
+pub unread : (text : List ℕ) (bytes numbers : ℕ) (got : Both) → pairReply got ≡ pairOf (readLists text) → OneOf (1 ∷ []) (tagOf both-type.the-type got)
     → provable text bytes numbers ≡ refused (bothRefusal got .number) (bothRefusal got .line)
-unread text bytes numbers (Paired p) f k = absurd (miss (1 ∷ []) 0 tt k)
-unread text bytes numbers (Refused r) f k = of-text text bytes numbers ∙ rw f
+unread text bytes numbers (Paired p) e k = absurd (miss (1 ∷ []) 0 tt k)
+unread text bytes numbers (Refused r) e k = of-text text bytes numbers ∙ rw (two-none text (r .number) (r .line) e)
 
 -- where they are read
-pub answered : (text : List ℕ) (bytes numbers : ℕ) (p : Pair) (f : ListsFound text p) (proof : List ℕ) (r : Proved)
+pub answered : (text : List ℕ) (bytes numbers : ℕ) (p : Pair) (f : TwoLists text p) (proof : List ℕ) (r : Proved)
     → FoldedSays (listsOf (lists-of (f .both))) bytes numbers proof r → AnswerSays text bytes numbers proof r
 answered text bytes numbers p f proof (proved.Lines n) h =
     (listsOf (lists-of (f .both)), of-text text bytes numbers ∙ (rw (f .alone) (h .0)), h .1, h .2)

@@ -1,12 +1,11 @@
 // The engine (document 01, 'Folded form and the engine'): two lists in, a proof that they agree out, exactly when each output pair has the
 // same folded form. The first pass folds, the outputs are compared, and the second pass writes the proof.
 use checker::clearing::clear_from;
-use checker::verdict::refusal;
 use derive::lines::LINE_BYTES;
 use emit::pass::emit;
 use fold::pass::first_apart;
 use fold::pass::fold;
-use frame::fields::clear;
+use frame::fields::clear_bytes;
 use netlist::Both;
 use netlist::Pair;
 use netlist::Refusal;
@@ -55,7 +54,7 @@ fn folded(text: &[u8], pair: Pair, proof: &mut [u8], work: &mut [u16]) -> Proved
             line: apart,
         });
     }
-    clear(proof);
+    clear_bytes(proof, 0);
     Proved::Lines(emit(text, pair, work, proof))
 }
 
@@ -65,7 +64,7 @@ fn answer(text: &[u8], proof: &mut [u8], work: &mut [u16]) -> Proved
 {
     let lists = read_lists(text);
     let Both::Paired(pair) = lists else {
-        return Proved::Refused(refusal(lists));
+        return Proved::Refused(lists.refusal());
     };
     folded(text, pair, proof, work)
 }
@@ -80,7 +79,7 @@ pub fn prove(text: &[u8], proof: &mut [u8], work: &mut [u16]) -> Proved
     match answered {
         Proved::Lines(n) => Proved::Lines(n),
         Proved::Refused(r) => {
-            clear(proof);
+            clear_bytes(proof, 0);
             Proved::Refused(r)
         }
     }

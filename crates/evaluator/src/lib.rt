@@ -1,9 +1,9 @@
 // The evaluator: one list from a text, a pattern in, a word out (document 01, 'Lines on the wire').
 pub mod nets; // the values of nets, in a lent slice
 
-use frame::fields::clear;
+use frame::fields::clear_bytes;
 use netlist::Counts;
-use netlist::Part;
+use netlist::One;
 use netlist::Refusal;
 use netlist::read_list;
 use nets::read_word;
@@ -41,7 +41,7 @@ fn answer(text: &[u8], pattern: u64, work: &mut [u8]) -> Evaluated
     ensures { λ r. ⌜ evaluatedOf r ≡ model.evaluate (now (text .entry)) pattern (length (now (work .entry))) ⌝ }
 {
     let list = read_list(text);
-    let Part::Counted(counts, _) = list else {
+    let One::Counted(counts) = list else {
         return Evaluated::Refused(list.refusal());
     };
     let nets = 1 + counts.inputs + counts.gates;
@@ -60,6 +60,6 @@ pub fn evaluate(text: &[u8], pattern: u64, work: &mut [u8]) -> Evaluated
     ensures leaves { λ r. ⌜ now (work .exit) ≡ zeros (length (now (work .entry))) ⌝ }
 {
     let answered = answer(text, pattern, work);
-    clear(work);
+    clear_bytes(work, 0);
     answered
 }

@@ -187,7 +187,7 @@ pub fn write_line(frame: Frame, out: &mut [u8], at: usize) -> usize
 }
 
 // Zeros from a place on; where the place lies behind the last, nothing changes.
-pub fn clear_from(out: &mut [u8], from: usize)
+pub fn clear_bytes(out: &mut [u8], from: usize)
     ensures { λ _. ⌜ now (out .exit) ≡ take from (now (out .entry)) ++ zeros (length (now (out .entry)) - from) ⌝ }
 {
     let mut at = from;

@@ -8,7 +8,7 @@ use digits::byte_at;
 use digits::digits_at;
 use digits::triple_at;
 use digits::word_at;
-use fields::clear_from;
+use fields::clear_bytes;
 use fields::line_len;
 use fields::line_number_fits;
 use fields::write_line;
@@ -236,7 +236,7 @@ pub fn write_frame(frame: Frame, out: &mut [u8]) -> Written
     ensures replies { λ r. ⌜ writtenOf r ≡ writeFrame (frameOf frame) (length (now (out .entry))) ⌝ }
     ensures leaves { λ r. ⌜ now (out .exit) ≡ writtenFrame (frameOf frame) (length (now (out .entry))) ⌝ }
 {
-    clear_from(out, 0);
+    clear_bytes(out, 0);
     if !line_number_fits(frame) {
         return Written::Unwritten {
             number: 16,

@@ -1,11 +1,14 @@
 -- Each arm knows its case of the answer: a frame is written, and a refusal is handed on with the buffer cleared.
 use mathlib.Core.Path.{refl}
+use denote.Ref.{now}
+use lib.ListN.{length}
+use Rattle.frame.proofs.ClearLaws.{cleared}
 use borrow.Author.Needs.{needs}
 use Rattle.cec_abi.proofs.write_answer.Statement.{statement}
 use Rattle.cec_abi.proofs.write_answer.Tie as tie
 use Rattle.cec_abi.proofs.write_answer.Reads as reads
 use Rattle.cec_abi.proofs.write_answer.Lts as lts
-use Rattle.frame.proofs.fields.clear.Reads as clear-reads
+use Rattle.frame.proofs.fields.clear_bytes.Reads as clear-bytes-reads
 use Rattle.frame.proofs.write_frame.Reads as write-frame-reads
 
 enum-known-answer : tie.Need-enum-known-answer
@@ -17,8 +20,8 @@ write-frame-requires c κs = search needs
 enum-known-answer-2 : tie.Need-enum-known-answer-2
 enum-known-answer-2 c = search needs
 
-clear-requires : tie.Need-clear-requires
-clear-requires c κs = search needs
+clear-bytes-requires : tie.Need-clear-bytes-requires
+clear-bytes-requires c κs = search needs
 
 same-length : tie.Need-same-length
 same-length c = search needs
@@ -31,7 +34,8 @@ same-length-2 c = search needs
 
 returns-2 : tie.Need-returns-2
 returns-2 c =
-    rw (c .before .before .before .before .before .answer2 .given .1) (refl, c .before .before .clear .ensures)
+    let out = now (c .before .before .before .before .before .before .before .args .out) in
+    rw (c .before .before .before .before .before .answer2 .given .1) (refl, cleared out _ (length out) refl (c .before .before .clear-bytes .ensures))
 
 pub write-answer-spec : {M : Type 1} → statement M
 write-answer-spec =
@@ -40,7 +44,7 @@ write-answer-spec =
     enum-known-answer
     write-frame-requires
     enum-known-answer-2
-    clear-requires
+    clear-bytes-requires
     same-length
     returns
     same-length-2

@@ -4,7 +4,8 @@ use native.Mathlib.Omega.{arith}
 use denote.Ref.{now}
 use lib.ListN.{length}
 use Rattle.laws.specs.Soundness.{sound}
-use Rattle.checker.proofs.VerdictLaws.{kept-as, cleared}
+use Rattle.frame.proofs.ClearLaws.{cleared}
+use Rattle.checker.proofs.VerdictLaws.{kept-as}
 use borrow.Author.Needs.{needs}
 use Rattle.checker.proofs.check.Statement.{statement}
 use Rattle.checker.proofs.check.Tie as tie
@@ -25,9 +26,7 @@ mul-clear-from c =
     omega (arith, h .3)
 
 clear-from-requires : tie.Need-clear-from-requires
-clear-from-requires c κs =
-    let h = rw (c .before .before .before .answered .given .1) at (c .before .before .before .before .before .before .before .verdict .ensures) in
-    omega (arith, h .2 .held .room, h .2 .clauses)
+clear-from-requires c κs = search needs
 
 enum-known-answered-2 : tie.Need-enum-known-answered-2
 enum-known-answered-2 c = search needs

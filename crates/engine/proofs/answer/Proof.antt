@@ -1,6 +1,7 @@
 -- The lists are refused, or the answer to them is the answer to the text (`AnswerLaws`).
 use denote.Ref.{now}
 use lib.ListN.{length}
+use Rattle.netlist.proofs.ReplyLaws.{two-lists}
 use Rattle.checker.proofs.VerdictLaws.{lists-of}
 use Rattle.engine.proofs.AnswerLaws.{unread, answered}
 use borrow.Author.Needs.{needs}
@@ -8,7 +9,7 @@ use Rattle.engine.proofs.answer.Statement.{statement}
 use Rattle.engine.proofs.answer.Tie as tie
 use Rattle.engine.proofs.answer.Reads as reads
 use Rattle.engine.proofs.answer.Lts as lts
-use Rattle.checker.proofs.verdict.refusal.Reads as refusal-reads
+use Rattle.netlist.proofs.Both.refusal.Reads as refusal-reads
 use Rattle.engine.proofs.folded.Reads as folded-reads
 use Rattle.netlist.proofs.read_lists.Reads as read-lists-reads
 
@@ -28,10 +29,11 @@ returns : tie.Need-returns
 returns c =
     let a = c .before .before .before .before .before .before .before .args in
     let got = c .before .before .before .read-lists in
-    rw (c .refusal .ensures) (unread (now (a .text)) (length (now (a .proof))) (length (now (a .work))) (got .result) (got .ensures .1) (c .before .before .match .keys2))
+    rw (c .refusal .ensures) (unread (now (a .text)) (length (now (a .proof))) (length (now (a .work))) (got .result) (got .ensures) (c .before .before .match .keys2))
 
 folded-requires : tie.Need-folded-requires
-folded-requires c κs = lists-of ((rw (c .before .before .before .lists .given .1) at (c .before .before .before .before .before .read-lists .ensures .1)) .both)
+folded-requires c κs =
+    lists-of (two-lists (now (c .before .before .before .before .before .before .before .before .before .args .text)) _ (rw (c .before .before .before .lists .given .1) at (c .before .before .before .before .before .read-lists .ensures)) .both)
 
 same-length : tie.Need-same-length
 same-length c = search needs
@@ -42,7 +44,7 @@ same-length-2 c = search needs
 returns-2 : tie.Need-returns-2
 returns-2 c =
     let a = c .before .before .before .before .before .before .before .before .before .before .before .before .before .before .args in
-    let f = rw (c .before .before .before .before .before .before .before .before .lists .given .1) at (c .before .before .before .before .before .before .before .before .before .before .read-lists .ensures .1) in
+    let f = two-lists (now (a .text)) _ (rw (c .before .before .before .before .before .before .before .before .lists .given .1) at (c .before .before .before .before .before .before .before .before .before .before .read-lists .ensures)) in
     let d = c .before .before .before .before .folded in
     answered (now (a .text)) (length (now (a .proof))) (length (now (a .work))) _ f _ (d .result) (d .ensures (lists-of (f .both)))
 

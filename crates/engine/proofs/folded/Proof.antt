@@ -1,6 +1,8 @@
 -- Test by test as the definition has them (`AnswerLaws`); the table and the lines are those of both passes.
+use mathlib.Core.Path.{refl}
 use denote.Ref.{now}
 use lib.ListN.{length}
+use Rattle.frame.proofs.ClearLaws.{cleared}
 use Rattle.engine.proofs.AnswerLaws.{due-16, due-17, due-18, due-proof, none-written}
 use borrow.Author.Needs.{needs}
 use Rattle.engine.proofs.folded.Statement.{statement}
@@ -10,7 +12,7 @@ use Rattle.engine.proofs.folded.Lts as lts
 use Rattle.emit.proofs.pass.emit.Reads as emit-reads
 use Rattle.fold.proofs.pass.first_apart.Reads as first-apart-reads
 use Rattle.fold.proofs.pass.fold.Reads as fold-reads
-use Rattle.frame.proofs.fields.clear.Reads as clear-reads
+use Rattle.frame.proofs.fields.clear_bytes.Reads as clear-bytes-reads
 
 add-gates : tie.Need-add-gates
 add-gates c = search needs
@@ -57,8 +59,8 @@ returns-3 c w =
     let k = c .before .first-apart in
     due-18 w _ _ (c .before .before .before .before .before .before .before .before .before .if1 .left) (c .before .before .before .before .before .before .before .if2 .left) (k .result) (k .ensures w (f .ensures w)) (c .if3 .taken)
 
-clear-requires : tie.Need-clear-requires
-clear-requires c κs = search needs
+clear-bytes-requires : tie.Need-clear-bytes-requires
+clear-bytes-requires c κs = search needs
 
 emit-requires : tie.Need-emit-requires
 emit-requires c κs = search needs
@@ -75,7 +77,9 @@ returns-4 c w =
     let k = c .before .before .before .before .before .before .before .before .before .before .before .before .first-apart in
     let e = c .before .before .before .before .emit in
     let h = f .ensures w in
-    let o = e .ensures w h (none-written (length (now (c .before .before .before .before .before .before .before .before .before .before .before .before .before .before .before .before .before .before .before .before .before .before .before .before .before .before .args .proof))) (c .before .before .before .before .before .before .before .before .before .clear .ensures)) in
+    let a = c .before .before .before .before .before .before .before .before .before .before .before .before .before .before .before .before .before .before .before .before .before .before .before .before .before .before .args in
+    let z = cleared (now (a .proof)) _ (length (now (a .proof))) refl (c .before .before .before .before .before .before .before .before .before .clear-bytes .ensures) in
+    let o = e .ensures w h (none-written (length (now (a .proof))) z) in
     (due-proof w _ _ (c .before .before .before .before .before .before .before .before .before .before .before .before .before .before .before .before .before .before .before .before .if1 .left) (c .before .before .before .before .before .before .before .before .before .before .before .before .before .before .before .before .before .before .if2 .left) (k .result) (k .ensures w h) (c .before .before .before .before .before .before .before .before .before .before .before .if3 .left), o .0, o .1)
 
 pub folded-spec : {M : Type 1} → statement M
@@ -96,7 +100,7 @@ folded-spec =
     first-apart-requires
     same-length
     returns-3
-    clear-requires
+    clear-bytes-requires
     emit-requires
     same-length-2
     same-length-3

@@ -1,9 +1,8 @@
 -- The promise from the answer: the proof's lines stay, or zeros come everywhere (`AnswerLaws`).
-use mathlib.Core.Path.{_≡_, ap, _∙_}
+use mathlib.Core.Path.{_≡_}
 use denote.Ref.{now}
 use lib.ListN.{length}
-use Rattle.model.specs.Answers.{zeros}
-use Rattle.checker.proofs.VerdictLaws.{cleared}
+use Rattle.frame.proofs.ClearLaws.{cleared}
 use Rattle.engine.proofs.AnswerLaws.{keeps-refusal, keeps-proof}
 use borrow.Author.Needs.{needs}
 use Rattle.engine.proofs.prove.Statement.{statement}
@@ -12,7 +11,7 @@ use Rattle.engine.proofs.prove.Reads as reads
 use Rattle.engine.proofs.prove.Lts as lts
 use Rattle.checker.proofs.clearing.clear_from.Reads as clear-from-reads
 use Rattle.engine.proofs.answer.Reads as answer-reads
-use Rattle.frame.proofs.fields.clear.Reads as clear-reads
+use Rattle.frame.proofs.fields.clear_bytes.Reads as clear-bytes-reads
 
 answer-requires : tie.Need-answer-requires
 answer-requires c κs = search needs
@@ -26,8 +25,8 @@ enum-known-answered c = search needs
 enum-known-answered-2 : tie.Need-enum-known-answered-2
 enum-known-answered-2 c = search needs
 
-clear-requires : tie.Need-clear-requires
-clear-requires c κs = search needs
+clear-bytes-requires : tie.Need-clear-bytes-requires
+clear-bytes-requires c κs = search needs
 
 same-length : tie.Need-same-length
 same-length c = search needs
@@ -59,7 +58,7 @@ returns-2 c =
     let l : length (w .last .1 .1 .0) ≡ length (now (a .work)) = search needs in
     let m : length (w .last .1 .0) ≡ length (now (a .proof)) = search needs in
     let z = cleared (w .last .1 .1 .0) _ (length (now (a .work))) l (c .before .before .before .before .before .before .before .before .before .clear-from .ensures) in
-    keeps-refusal (now (a .text)) (length (now (a .proof))) (length (now (a .work))) z _ _ h (c .before .before .clear .ensures ∙ ap zeros m)
+    keeps-refusal (now (a .text)) (length (now (a .proof))) (length (now (a .work))) z _ _ h (cleared (w .last .1 .0) _ (length (now (a .proof))) m (c .before .before .clear-bytes .ensures))
 
 pub prove-spec : {M : Type 1} → statement M
 prove-spec =
@@ -69,7 +68,7 @@ prove-spec =
     clear-from-requires
     enum-known-answered
     enum-known-answered-2
-    clear-requires
+    clear-bytes-requires
     same-length
     same-length-2
     returns

@@ -10,7 +10,7 @@ use Rattle.evaluator.proofs.answer.Tie as tie
 use Rattle.evaluator.proofs.answer.Reads as reads
 use Rattle.evaluator.proofs.answer.Lts as lts
 use Rattle.evaluator.proofs.word_of.Reads as word-of-reads
-use Rattle.netlist.proofs.Part.refusal.Reads as refusal-reads
+use Rattle.netlist.proofs.One.refusal.Reads as refusal-reads
 use Rattle.netlist.proofs.read_list.Reads as read-list-reads
 
 read-list-requires : tie.Need-read-list-requires

@@ -15,13 +15,13 @@ use Rattle.frame.proofs.write_frame.Statement.{statement}
 use Rattle.frame.proofs.write_frame.Tie as tie
 use Rattle.frame.proofs.write_frame.Reads as reads
 use Rattle.frame.proofs.write_frame.Lts as lts
-use Rattle.frame.proofs.fields.clear_from.Reads as clear-from-reads
+use Rattle.frame.proofs.fields.clear_bytes.Reads as clear-bytes-reads
 use Rattle.frame.proofs.fields.line_len.Reads as line-len-reads
 use Rattle.frame.proofs.fields.line_number_fits.Reads as line-number-fits-reads
 use Rattle.frame.proofs.fields.write_line.Reads as write-line-reads
 
-clear-from-requires : tie.Need-clear-from-requires
-clear-from-requires c κs = search needs
+clear-bytes-requires : tie.Need-clear-bytes-requires
+clear-bytes-requires c κs = search needs
 
 line-number-fits-requires : tie.Need-line-number-fits-requires
 line-number-fits-requires c κs = search needs
@@ -32,7 +32,7 @@ same-length c = search needs
 returns : tie.Need-returns
 returns c =
     let a = c .before .before .before .before .before .before .before .args in
-    write-unfit (frameOf (a .frame)) (length (now (a .out))) (sym (c .before .line-number-fits .ensures) ∙ not-true _ (c .if1 .taken)) (cleared (now (a .out)) _ _ refl (c .before .before .before .before .clear-from .ensures))
+    write-unfit (frameOf (a .frame)) (length (now (a .out))) (sym (c .before .line-number-fits .ensures) ∙ not-true _ (c .if1 .taken)) (cleared (now (a .out)) _ _ refl (c .before .before .before .before .clear-bytes .ensures))
 
 line-len-requires : tie.Need-line-len-requires
 line-len-requires c κs = search needs
@@ -43,7 +43,7 @@ same-length-2 c = search needs
 returns-2 : tie.Need-returns-2
 returns-2 c =
     let a = c .before .before .before .before .before .before .before .before .before .args in
-    let zeroed = cleared (now (a .out)) _ _ refl (c .before .before .before .before .before .before .clear-from .ensures) in
+    let zeroed = cleared (now (a .out)) _ _ refl (c .before .before .before .before .before .before .clear-bytes .ensures) in
     write-short (frameOf (a .frame)) (length (now (a .out))) (omega (arith, c .before .line-len .ensures, ap length zeroed, length-replicate {A = ℕ} (length (now (a .out))) 0)) zeroed
 
 write-line-requires : tie.Need-write-line-requires
@@ -55,7 +55,7 @@ same-length-3 c = search needs
 returns-3 : tie.Need-returns-3
 returns-3 c =
     let a = c .before .before .before .before .before .before .before .before .before .before .before .before .before .args in
-    let zeroed = cleared (now (a .out)) _ _ refl (c .before .before .before .before .before .before .before .before .before .before .clear-from .ensures) in
+    let zeroed = cleared (now (a .out)) _ _ refl (c .before .before .before .before .before .before .before .before .before .before .clear-bytes .ensures) in
     let w = c .before .before .write-line in
     write-done (frameOf (a .frame)) (length (now (a .out)))
     (sym (c .before .before .before .before .before .before .before .line-number-fits .ensures) ∙ not-false _ (c .before .before .before .before .before .before .if1 .left))
@@ -67,7 +67,7 @@ pub write-frame-spec : {M : Type 1} → statement M
 write-frame-spec =
     tie.close
     (tie.spec
-    clear-from-requires
+    clear-bytes-requires
     line-number-fits-requires
     same-length
     returns

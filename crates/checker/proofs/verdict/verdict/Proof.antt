@@ -4,6 +4,7 @@ use native.Mathlib.Omega.{arith}
 use borrow.Author.Tests.{not-true, not-false}
 use denote.Ref.{now}
 use lib.ListN.{length}
+use Rattle.netlist.proofs.ReplyLaws.{both-lists}
 use Rattle.checker.proofs.VerdictLaws.{capacity-fits, lists-of, unread, begin-refused, replay-refused, not-empty, accepted}
 use borrow.Author.Needs.{needs}
 use Rattle.checker.proofs.verdict.verdict.Statement.{statement}
@@ -13,7 +14,7 @@ use Rattle.checker.proofs.verdict.verdict.Lts as lts
 use Rattle.miter.proofs.begin.begin.Reads as begin-reads
 use Rattle.checker.proofs.replay.replay.Reads as replay-reads
 use Rattle.checker.proofs.verdict.capacity.Reads as capacity-reads
-use Rattle.checker.proofs.verdict.refusal.Reads as refusal-reads
+use Rattle.netlist.proofs.Both.refusal.Reads as refusal-reads
 use Rattle.netlist.proofs.read_both.Reads as read-both-reads
 
 capacity-requires : tie.Need-capacity-requires
@@ -40,7 +41,7 @@ returns c =
 begin-requires : tie.Need-begin-requires
 begin-requires c κs =
     let n = length (now (c .before .before .before .before .before .before .before .before .args .store)) in
-    let b = rw (c .before .before .lists .given .1) at (c .before .before .before .before .read-both .ensures) in
+    let b = both-lists (now (c .before .before .before .before .before .before .before .before .args .text)) _ (rw (c .before .before .lists .given .1) at (c .before .before .before .before .read-both .ensures)) in
     let room = c .before .before .before .before .before .capacity in
     let f = capacity-fits n in
     (lists-of b, omega (arith, room .ensures), omega (arith, room .ensures))
@@ -57,7 +58,7 @@ same-length c = search needs
 returns-2 : tie.Need-returns-2
 returns-2 c =
     let n = length (now (c .before .before .before .before .before .before .before .before .before .before .before .before .before .args .store)) in
-    let b = rw (c .before .before .before .before .before .before .before .lists .given .1) at (c .before .before .before .before .before .before .before .before .before .read-both .ensures) in
+    let b = both-lists (now (c .before .before .before .before .before .before .before .before .before .before .before .before .before .args .text)) _ (rw (c .before .before .before .before .before .before .before .lists .given .1) at (c .before .before .before .before .before .before .before .before .before .read-both .ensures)) in
     let room = c .before .before .before .before .before .before .before .before .before .before .capacity in
     let told = c .enum-told2 .given in
     rw (told .1) (begin-refused b n (room .result) (room .ensures) _ _ (rw (told .1) at (c .before .before .before .before .begin .ensures (lists-of b))))
@@ -65,7 +66,7 @@ returns-2 c =
 replay-requires : tie.Need-replay-requires
 replay-requires c κs =
     let n = length (now (c .before .before .before .before .before .before .before .before .before .before .before .before .before .before .before .args .store)) in
-    let b = rw (c .before .before .before .before .before .before .before .before .before .lists .given .1) at (c .before .before .before .before .before .before .before .before .before .before .before .read-both .ensures) in
+    let b = both-lists (now (c .before .before .before .before .before .before .before .before .before .before .before .before .before .before .before .args .text)) _ (rw (c .before .before .before .before .before .before .before .before .before .lists .given .1) at (c .before .before .before .before .before .before .before .before .before .before .before .read-both .ensures)) in
     let room = c .before .before .before .before .before .before .before .before .before .before .before .before .capacity in
     let begun = rw (c .before .before .begun .given .1) at (c .before .before .before .before .before .before .begin .ensures (lists-of b)) in
     (b .inside, begun .3)
@@ -82,7 +83,7 @@ same-length-2 c = search needs
 returns-3 : tie.Need-returns-3
 returns-3 c =
     let n = length (now (c .before .before .before .before .before .before .before .before .before .before .before .before .before .before .before .before .before .before .before .before .args .store)) in
-    let b = rw (c .before .before .before .before .before .before .before .before .before .before .before .before .before .before .lists .given .1) at (c .before .before .before .before .before .before .before .before .before .before .before .before .before .before .before .before .read-both .ensures) in
+    let b = both-lists (now (c .before .before .before .before .before .before .before .before .before .before .before .before .before .before .before .before .before .before .before .before .args .text)) _ (rw (c .before .before .before .before .before .before .before .before .before .before .before .before .before .before .lists .given .1) at (c .before .before .before .before .before .before .before .before .before .before .before .before .before .before .before .before .read-both .ensures)) in
     let room = c .before .before .before .before .before .before .before .before .before .before .before .before .before .before .before .before .before .capacity in
     let begun = rw (c .before .before .before .before .before .before .before .begun .given .1) at (c .before .before .before .before .before .before .before .before .before .before .before .begin .ensures (lists-of b)) in
     let told = c .enum-told3 .given in
@@ -94,7 +95,7 @@ same-length-3 c = search needs
 returns-4 : tie.Need-returns-4
 returns-4 c =
     let n = length (now (c .before .before .before .before .before .before .before .before .before .before .before .before .before .before .before .before .before .before .before .before .before .before .before .args .store)) in
-    let b = rw (c .before .before .before .before .before .before .before .before .before .before .before .before .before .before .before .before .before .lists .given .1) at (c .before .before .before .before .before .before .before .before .before .before .before .before .before .before .before .before .before .before .before .read-both .ensures) in
+    let b = both-lists (now (c .before .before .before .before .before .before .before .before .before .before .before .before .before .before .before .before .before .before .before .before .before .before .before .args .text)) _ (rw (c .before .before .before .before .before .before .before .before .before .before .before .before .before .before .before .before .before .lists .given .1) at (c .before .before .before .before .before .before .before .before .before .before .before .before .before .before .before .before .before .before .before .read-both .ensures)) in
     let room = c .before .before .before .before .before .before .before .before .before .before .before .before .before .before .before .before .before .before .before .before .capacity in
     let begun = rw (c .before .before .before .before .before .before .before .before .before .before .begun .given .1) at (c .before .before .before .before .before .before .before .before .before .before .before .before .before .before .begin .ensures (lists-of b)) in
     let end = rw (c .before .before .before .replayed .given .1) at (c .before .before .before .before .before .before .before .replay .ensures (begun .0) (begun .2)) in
@@ -106,7 +107,7 @@ same-length-4 c = search needs
 returns-5 : tie.Need-returns-5
 returns-5 c =
     let n = length (now (c .before .before .before .before .before .before .before .before .before .before .before .before .before .before .before .before .before .before .before .before .before .before .before .args .store)) in
-    let b = rw (c .before .before .before .before .before .before .before .before .before .before .before .before .before .before .before .before .before .lists .given .1) at (c .before .before .before .before .before .before .before .before .before .before .before .before .before .before .before .before .before .before .before .read-both .ensures) in
+    let b = both-lists (now (c .before .before .before .before .before .before .before .before .before .before .before .before .before .before .before .before .before .before .before .before .before .before .before .args .text)) _ (rw (c .before .before .before .before .before .before .before .before .before .before .before .before .before .before .before .before .before .lists .given .1) at (c .before .before .before .before .before .before .before .before .before .before .before .before .before .before .before .before .before .before .before .read-both .ensures)) in
     let room = c .before .before .before .before .before .before .before .before .before .before .before .before .before .before .before .before .before .before .before .before .capacity in
     let begun = rw (c .before .before .before .before .before .before .before .before .before .before .begun .given .1) at (c .before .before .before .before .before .before .before .before .before .before .before .before .before .before .begin .ensures (lists-of b)) in
     let end = rw (c .before .before .before .replayed .given .1) at (c .before .before .before .before .before .before .before .replay .ensures (begun .0) (begun .2)) in

@@ -7,10 +7,10 @@ use borrow.Author.Needs.{needs}
 use denote.Ref.{now}
 use lib.ListN.{length, length-set}
 use Rattle.frame.proofs.ClearLaws.{clearedTo, from-none, from-more, from-all}
-use Rattle.frame.proofs.fields.clear_from.Statement.{statement}
-use Rattle.frame.proofs.fields.clear_from.Tie as tie
-use Rattle.frame.proofs.fields.clear_from.Reads as reads
-use Rattle.frame.proofs.fields.clear_from.Lts as lts
+use Rattle.frame.proofs.fields.clear_bytes.Statement.{statement}
+use Rattle.frame.proofs.fields.clear_bytes.Tie as tie
+use Rattle.frame.proofs.fields.clear_bytes.Reads as reads
+use Rattle.frame.proofs.fields.clear_bytes.Lts as lts
 
 abbrev Inv-loop : tie.InvT-loop
 Inv-loop out₀ from at₀ out at =
@@ -47,8 +47,8 @@ returns c =
     let a = c .before .before .args in
     l .inv .3 ∙ from-all (now (a .out)) (a .from) (l .at - a .from) (omega arith)
 
-pub clear-from-spec : {M : Type 1} → statement M
-clear-from-spec =
+pub clear-bytes-spec : {M : Type 1} → statement M
+clear-bytes-spec =
     tie.close
     (tie.spec
     Inv-loop
