@@ -18,7 +18,7 @@ lists-reply-requires c κs = search needs
 returns : tie.Need-returns
 returns c =
     let a = c .before .before .before .args in
-    c .lists-reply .ensures (readLists (now (a .text))) (c .before .read-lists .ensures .0)
+    c .lists-reply .ensures (readLists (now (a .text))) (c .before .read-lists .ensures)
 
 pub cec-read-lists-spec : {M : Type 1} → statement M
 cec-read-lists-spec = tie.close (tie.spec read-lists-requires lists-reply-requires returns)

@@ -34,7 +34,7 @@ same-length-2 c = search needs
 
 returns-2 : tie.Need-returns-2
 returns-2 c =
-    let out = now (c .before .before .before .before .before .before .before .args .out) in
+    let out = now (c .before .before .before .before .before .before .before .before .args .out) in
     rw (c .before .before .before .before .before .answer2 .given .1) (refl, cleared out _ (length out) refl (c .before .before .clear-bytes .ensures))
 
 pub write-answer-spec : {M : Type 1} → statement M
