@@ -1,6 +1,6 @@
 // The engine's second pass: from the table of the first, the lines of a proof, those of each gate (see `derive`) and then those of the
 // outputs. The contracts name the derivations that the lines are, as those of `derive` do.
-pub mod begin; // before the first gate
-pub mod normal; // a gate in normal form
-pub mod outputs; // the outputs, down to the empty clause
+mod begin; // before the first gate
+mod normal; // a gate in normal form
+mod outputs; // the outputs, down to the empty clause
 pub mod pass; // all gates, and then the outputs

@@ -1,5 +1,5 @@
 // The evaluator: one list from a text, a pattern in, a word out (document 01, 'Lines on the wire').
-pub mod nets; // the values of nets, in a lent slice
+mod nets; // the values of nets, in a lent slice
 
 use frame::fields::clear_bytes;
 use netlist::Counts;

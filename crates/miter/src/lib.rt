@@ -2,4 +2,4 @@
 // the clauses that a store holds before the first step.
 pub mod begin; // the miter's clauses in the store
 pub mod both; // the gates and outputs of both lists
-pub mod variables; // the variables of the miter and their definitions
+mod variables; // the variables of the miter and their definitions
