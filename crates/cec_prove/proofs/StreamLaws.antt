@@ -8,23 +8,24 @@ use native.Mathlib.Omega.{arith}
 use lib.Dec.{leb}
 use lib.ListN.{length, take, length-append, length-replicate, length-take}
 use lib.Seq.{take-at, take-length}
-use borrow.Author.Tests.{leb-true, le-leb, lt-leb}
+use borrow.Author.Tests.{leb-true, leb-false, le-leb, lt-leb}
 use Rattle.model.specs.Limits.{streamBytes, highestLine, proofLineBytes}
-use Rattle.model.specs.Answers.{Answer, guard, zeros, filled}
+use Rattle.model.specs.Answers.{Answer, guard, bind, zeros, filled}
 use Rattle.model.specs.Answers.Answer.{ok, refused}
-use Rattle.model.specs.Lists.{Lists}
+use Rattle.model.specs.Lists.{Lists, readLists}
 use Rattle.model.specs.Frames.{statedLine, lineOf, writeFrame, writtenFrame}
-use Rattle.model.specs.Engine.{provable, Outcome, Engine}
+use Rattle.model.specs.Engine.{lineBound, working, provable, Outcome, Engine}
 use Rattle.laws.specs.Answers.{ok-injective, refused-not-ok}
+use Rattle.laws.specs.Reading.{lists-good}
 use Rattle.laws.specs.Places.{Placed, provable-placed}
-use Rattle.laws.specs.Places.Placed.{place}
+use Rattle.laws.specs.Places.Placed.{result, place}
 use Rattle.frame.specs.Frames.{report}
 use Rattle.frame.proofs.WriteLaws.{report-length}
 use Rattle.engine.specs.declared.Proved.{Proved}
 use Rattle.engine.specs.declared.Proved.the-variants.{Lines, Refused}
 use Rattle.engine.specs.Replies.{provedOf}
 use Rattle.cec_prove.specs.declared.evidence.Printed.{Printed}
-use Rattle.cec_prove.specs.Streams.{proofBytes, workingNumbers, dueTo, Answered, Prints}
+use Rattle.cec_prove.specs.Streams.{sameForms, dueTo, proofBytes, workingNumbers, Answered, Prints}
 
 -- the engine's refusal is the one that is due
 same-refusal : {number line n l : ℕ} → _≡_ {A = Answer ℕ} (refused n l) (refused number line) → _≡_ {A = Answer Lists} (refused number line) (refused n l)
@@ -44,9 +45,19 @@ module _ (stream : List ℕ) where
   unfolding dueTo guard
   too-long h = rw (lt-leb _ _ h)
 
+  -- the memory is enough for every list
+  enough : (a : Answer Lists) → readLists stream ≡ a → provable stream proofBytes workingNumbers ≡ bind a sameForms
+  unfolding provable guard
+  enough (ok l) e =
+      let p = lists-good stream l e in
+      let bytes : proofLineBytes * lineBound (l .left) (l .right) ≤ proofBytes = omega (arith, p .left .gates, p .right .gates, p .left .outs) in
+      let numbers : working (l .left) (l .right) ≤ workingNumbers = omega (arith, p .left .inputs, p .left .gates, p .right .gates) in
+      rw (e, le-leb _ proofBytes bytes, le-leb _ workingNumbers numbers)
+  enough (refused number line) e = rw e
+
   not-too-long : length stream ≤ streamBytes → dueTo stream ≡ provable stream proofBytes workingNumbers
   unfolding dueTo guard
-  not-too-long h = rw (le-leb _ _ h)
+  not-too-long h = rw (le-leb _ _ h) (sym (enough (readLists stream) refl))
 
   pub answered : length stream ≤ streamBytes → (r : Proved) (out work : List ℕ) → length out ≡ proofBytes → Engine stream proofBytes workingNumbers (provedOf r) out work
       → Answered stream r out work
@@ -63,19 +74,22 @@ module _ (stream : List ℕ) where
 
   -- ---- what is printed
 
-  few : {most : ℕ} {Good : Lists → Type 0} (a : Answer Lists) → Placed Good most a → most ≤ highestLine → (number line : ℕ) → a ≡ refused number line → line ≤ highestLine
-  few (ok l) p h number line e = absurd (refused-not-ok (sym e))
-  few (refused m k) (place n l some less) h number line e = let z : k ≡ line = cc in omega arith
+  few : {Good : Lists → Type 0} {most : ℕ} {a : Answer Lists} → Placed Good most a → most ≤ highestLine → {number line : ℕ} → a ≡ refused number line → line ≤ highestLine
+  few (result p) h e = absurd (refused-not-ok (sym e))
+  few (place n l some less) h {number} {line} e = let z : l ≡ line = cc in omega arith
 
   -- a stream that is not too long has few lines
   has-digits : (number line : ℕ) → dueTo stream ≡ refused number line → line ≤ highestLine
-  unfolding dueTo guard
   has-digits number line e = by-length (leb (length stream) streamBytes) refl
     where
       by-length : (b : Bool) → leb (length stream) streamBytes ≡ b → line ≤ highestLine
       by-length true t =
-          few (provable stream proofBytes workingNumbers) (provable-placed stream proofBytes workingNumbers) (omega (arith, leb-true (length stream) streamBytes t)) number line (rw t at e)
-      by-length false t = few {most = 0} {Good = λ l. Unit {0}} (refused 1 0) (place 1 0 (omega arith) (omega arith)) (omega arith) number line (rw t at e)
+          let short = leb-true (length stream) streamBytes t in
+          few (provable-placed stream proofBytes workingNumbers) (omega (arith, short)) (sym (not-too-long short) ∙ e)
+      by-length false t =
+          let one = sym (too-long (leb-false (length stream) streamBytes t)) ∙ e in
+          let zero : 0 ≡ line = cc in
+          omega arith
 
   pub proof-printed : (n : ℕ) (p : Printed) {out work : List ℕ} → p .lists ≡ length stream → p .behind ≡ proofLineBytes * n → Answered stream (Lines n) out work → Prints stream p out work
   proof-printed n p {out} all long (l, proof, e, v, fits, o, w) =

@@ -2,14 +2,15 @@
 use Prim.Native.Nat.{ℕ, _+_, _*_, _≤_}
 use mathlib.Core.Path.{_≡_}
 use mathlib.Core.List.{List, _++_}
-use lib.Dec.{leb}
+use lib.Dec.{eqb, leb}
 use lib.ListN.{length, take}
 use Rattle.model.specs.Limits.{mostInputs, mostGates, mostOutputs, streamBytes, linesPerGate, linesPerOutput, proofLineBytes, numbersPerNet}
-use Rattle.model.specs.Answers.{Answer, guard, zeros, filled}
+use Rattle.model.specs.Answers.{Answer, guard, bind, zeros, filled}
 use Rattle.model.specs.Answers.Answer.{ok, refused}
-use Rattle.model.specs.Lists.{Lists}
+use Rattle.model.specs.Lists.{Lists, readLists}
 use Rattle.model.specs.Frames.{lineOf}
-use Rattle.model.specs.Engine.{provable, Proves}
+use Rattle.model.specs.Forms.{differing}
+use Rattle.model.specs.Engine.{Proves}
 use Rattle.frame.specs.Frames.{report}
 use Rattle.engine.specs.declared.Proved.{Proved}
 use Rattle.engine.specs.declared.Proved.the-variants.{Lines, Refused}
@@ -17,16 +18,20 @@ use Rattle.cec_prove.specs.declared.evidence.Printed.{Printed}
 
 -- ---- what is due
 
--- proof bytes and working numbers for the largest lists, so that 16 and 17 do not occur
+-- lists whose forms are the same; 18: 'the first such output, from 1, stands as the line'
+abbrev pub sameForms : Lists → Answer Lists
+sameForms l = guard (eqb (differing (l .left) (l .right)) 0) 18 (differing (l .left) (l .right)) (ok l)
+
+-- the lists of a stream, to which a proof is due, or the refusal; 1: 'over 65,536 bytes; line 0'
+unfoldable pub dueTo : List ℕ → Answer Lists
+dueTo stream = guard (leb (length stream) streamBytes) 1 0 (bind (readLists stream) sameForms)
+
+-- proof bytes and working numbers for the largest lists, so that neither 16 nor 17 is due
 abbrev pub proofBytes : ℕ
 proofBytes = proofLineBytes * (linesPerGate * (2 * mostGates) + linesPerOutput * mostOutputs)
 
 abbrev pub workingNumbers : ℕ
 workingNumbers = numbersPerNet * (1 + mostInputs + 2 * mostGates)
-
--- the lists of a stream whose proof is due, or the refusal; 1: 'over 65,536 bytes; line 0'
-unfoldable pub dueTo : List ℕ → Answer Lists
-dueTo stream = guard (leb (length stream) streamBytes) 1 0 (provable stream proofBytes workingNumbers)
 
 -- ---- the engine's part
 
