@@ -22,7 +22,7 @@ returns c =
     let a = c .before .before .before .before .args in
     let f = c .clear-from in
     let long : length (now (a .work)) ≡ workingNumbers = search needs in
-    (too-long (now (a .stream)) (c .before .before .if1 .taken), cleared (now (a .work)) (f .last .0) workingNumbers long (f .ensures))
+    (too-long (now (a .stream)) (omega (arith, c .before .before .if1 .taken)), cleared (now (a .work)) (f .last .0) workingNumbers long (f .ensures))
 
 prove-requires : tie.Need-prove-requires
 prove-requires c κs = search needs
