@@ -8,6 +8,17 @@ use streams::Stream;
 use streams::read_stream;
 use streams::room;
 
+// The one line, and a message where it could not be written.
+fn print(line: &[u8]) {
+    if io::write_all(STDOUT_FILENO, line) {
+        return;
+    }
+    io::write_all(
+        STDERR_FILENO,
+        b"cec_check: standard output was not written to its end\n",
+    );
+}
+
 fn main() {
     let mut stream = room();
     let Stream::Read(n) = read_stream(&mut stream) else {
@@ -18,5 +29,5 @@ fn main() {
         return;
     };
     let line = report(&stream[..n]);
-    io::write_all(STDOUT_FILENO, &line);
+    print(&line);
 }

@@ -23,12 +23,23 @@ fn argument() -> Pattern {
     pattern_of(&digits[..n])
 }
 
+// The one line, and a message where it could not be written.
+fn print(line: &[u8]) {
+    if io::write_all(STDOUT_FILENO, line) {
+        return;
+    }
+    io::write_all(
+        STDERR_FILENO,
+        b"cec_eval: standard output was not written to its end\n",
+    );
+}
+
 // Prints the answer to a stream.
 fn run(stream: &[u8], pattern: u64) {
     let answered = answer(stream, pattern);
     let line = answered.line;
     let len = answered.len;
-    io::write_all(STDOUT_FILENO, &line[..len]);
+    print(&line[..len]);
 }
 
 fn main() {

@@ -38,6 +38,10 @@ fn run_of(root: &Path, folder: &Path, words: &[&str]) -> Said {
     let path = format!("{}:{path}", root.display());
     let mut command = Command::new(root.join("cec"));
     let command = command.args(words).current_dir(folder).env("PATH", path);
+    said(command)
+}
+
+fn said(command: &mut Command) -> Said {
     let ended = command.stdin(Stdio::null()).output();
     let ended = ended.expect("the command runs");
     let text = |bytes| String::from_utf8(bytes).expect("the output is text");
@@ -448,5 +452,42 @@ fn evidence_for_other_lists_is_no_evidence() {
     for pair in [[&adder, &adder], [&wire, &gate], [&wire, &wire]] {
         let said = run_of(&root, &folder, &["prove", pair[0], pair[1]]);
         fails(said, "the evidence is not both lists and a whole proof");
+    }
+}
+
+/// Runs the command in a shell that allows a stack of so many KB.
+fn run_with_stack(folder: &Path, kilobytes: u32, words: &[&str]) -> Said {
+    let limit = format!("ulimit -s {kilobytes}; exec \"$0\" \"$@\"");
+    let mut command = Command::new("sh");
+    let command = command.args(["-c", &limit]).arg(root().join("cec"));
+    said(command.args(words).current_dir(folder))
+}
+
+/// With the stack that the command asks for, a program takes the largest lists; with less there is a
+/// message, and no program runs.
+#[test]
+fn a_stack_that_is_too_small_is_named() {
+    let folder = folder("stack");
+    let lists = linked("03");
+    let (left, right) = lists.split_at(lists.len() / 2);
+    fs::write(folder.join("left"), left).expect("it is written");
+    fs::write(folder.join("right"), right).expect("it is written");
+    fs::write(folder.join("both"), &lists).expect("it is written");
+    let commands: [(&str, u32, &[&str]); 3] = [
+        ("cec_prove", 1_024, &["prove", "left", "right"]),
+        ("cec_check", 512, &["check", "both"]),
+        ("cec_eval", 256, &["eval", "left", "3"]),
+    ];
+    for (program, needed, words) in commands {
+        let enough = run_with_stack(&folder, needed, words);
+        assert_eq!(enough, run(&folder, words), "{program}");
+        assert_eq!(enough.2, "", "{program}");
+        for allowed in [needed - 1, 200] {
+            let message = format!(
+                "cec: {program} needs a stack of {needed} KB; this shell allows {allowed} (ulimit -s)\n"
+            );
+            let said = run_with_stack(&folder, allowed, words);
+            assert_eq!(said, (Some(2), String::new(), message));
+        }
     }
 }

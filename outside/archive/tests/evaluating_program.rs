@@ -195,3 +195,11 @@ fn unreadable_standard_input_has_no_word() {
     programs::is_unread(call, programs::only_written(&file(99), &adder));
     programs::is_unread(call, programs::broken_off(&adder));
 }
+
+/// On a full disk there is a message, for a word and for a refusal.
+#[test]
+fn unwritten_standard_output_is_told() {
+    let call = with(&["0000000000000000"]);
+    programs::is_unwritten(call, &samples::text(samples::ADDER));
+    programs::is_unwritten(call, b"");
+}

@@ -214,3 +214,10 @@ fn a_stream_that_breaks_off_has_no_report() {
     let sample = bench(&PROOF);
     programs::is_unread(PROGRAM, programs::broken_off(sample.as_bytes()));
 }
+
+/// On a full disk there is a message, for a verdict of each sort.
+#[test]
+fn unwritten_standard_output_is_told() {
+    programs::is_unwritten(PROGRAM, bench(&PROOF).as_bytes());
+    programs::is_unwritten(PROGRAM, b"");
+}

@@ -3,6 +3,7 @@
 
 mod common;
 
+use std::fs;
 use std::path::{Path, PathBuf};
 
 use cec_archive::{check, prove};
@@ -34,6 +35,9 @@ const WORK_NUMBERS: usize = 16 * (1 + LARGEST.inputs + 2 * LARGEST.gates);
 
 /// The clauses of the checking program's store.
 const CLAUSES: usize = 4_096;
+
+/// The bytes by which a shell limits files.
+const BLOCK: usize = 512;
 
 /// Evidence, and what the checking program says of it. It has less room than evidence may need.
 const ACCEPTED: &str = "evidence: accepted";
@@ -361,4 +365,32 @@ fn unreadable_standard_input_has_no_evidence() {
 #[test]
 fn a_stream_that_breaks_off_has_no_evidence() {
     programs::is_unread(PROGRAM, programs::broken_off(LISTS.as_bytes()));
+}
+
+/// On a full disk there is a message, for a proof and for a refusal.
+#[test]
+fn unwritten_standard_output_is_told() {
+    let long = list_texts::linked("03");
+    for stream in [LISTS, &long, ""] {
+        programs::is_unwritten(PROGRAM, stream.as_bytes());
+    }
+}
+
+/// Output that ends within the lists, within the proof, or one block before the proof's end is the
+/// evidence as far as there was room, and a message.
+#[test]
+fn output_that_is_cut_off_is_told() {
+    let stream = list_texts::linked("03").into_bytes();
+    let (_, evidence) = wanted(&stream);
+    let whole = evidence.len() / BLOCK;
+    for blocks in [1, stream.len() / BLOCK, whole / 2, whole] {
+        let output = file(100);
+        let ended = programs::run_cut_off(PROGRAM, &stream, &output, blocks);
+        programs::only_complains_of_output(PROGRAM, ended);
+        let written = fs::read(output).expect("it was written");
+        assert_eq!(hex(&written), hex(&evidence[..BLOCK * blocks]));
+    }
+    let ended = programs::run_cut_off(PROGRAM, &stream, &file(100), whole + 1);
+    assert_eq!(printed(ended), "");
+    assert_eq!(fs::read(file(100)).expect("it was written"), evidence);
 }

@@ -6,6 +6,7 @@ use Rattle.cec_check.proofs.main.Statement.{statement}
 use Rattle.cec_check.proofs.main.Tie as tie
 use Rattle.cec_check.proofs.main.Reads as reads
 use Rattle.cec_check.proofs.main.Lts as lts
+use Rattle.cec_check.proofs.print.Reads as print-reads
 use Rattle.cec_check.proofs.report.report.Reads as report-reads
 use Rattle.io.proofs.write_all.Reads as write-all-reads
 use Rattle.streams.proofs.read_stream.Reads as read-stream-reads
@@ -46,11 +47,11 @@ slice-aggregate-report c =
 report-requires : tie.Need-report-requires
 report-requires c κs = search needs
 
-slice-aggregate-write-all-2 : tie.Need-slice-aggregate-write-all-2
-slice-aggregate-write-all-2 c = search needs
+slice-aggregate-print : tie.Need-slice-aggregate-print
+slice-aggregate-print c = search needs
 
-write-all-requires-2 : tie.Need-write-all-requires-2
-write-all-requires-2 c κs = search needs
+print-requires : tie.Need-print-requires
+print-requires c κs = search needs
 
 returns-2 : tie.Need-returns-2
 returns-2 c = search needs
@@ -70,6 +71,6 @@ main-spec =
     array-share-prefix-stream
     slice-aggregate-report
     report-requires
-    slice-aggregate-write-all-2
-    write-all-requires-2
+    slice-aggregate-print
+    print-requires
     returns-2)

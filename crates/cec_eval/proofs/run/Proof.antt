@@ -8,7 +8,7 @@ use Rattle.cec_eval.proofs.run.Tie as tie
 use Rattle.cec_eval.proofs.run.Reads as reads
 use Rattle.cec_eval.proofs.run.Lts as lts
 use Rattle.cec_eval.proofs.answer.answer.Reads as answer-reads
-use Rattle.io.proofs.write_all.Reads as write-all-reads
+use Rattle.cec_eval.proofs.print.Reads as print-reads
 
 answer-requires : tie.Need-answer-requires
 answer-requires c κs = search needs
@@ -16,11 +16,11 @@ answer-requires c κs = search needs
 array-share-prefix-line : tie.Need-array-share-prefix-line
 array-share-prefix-line c = printed-within (c .before .answer .ensures)
 
-slice-aggregate-write-all : tie.Need-slice-aggregate-write-all
-slice-aggregate-write-all c = sym (length-take-le _ _ (printed-within (c .before .before .answer .ensures)))
+slice-aggregate-print : tie.Need-slice-aggregate-print
+slice-aggregate-print c = sym (length-take-le _ _ (printed-within (c .before .before .answer .ensures)))
 
-write-all-requires : tie.Need-write-all-requires
-write-all-requires c κs = search needs
+print-requires : tie.Need-print-requires
+print-requires c κs = search needs
 
 returns : tie.Need-returns
 returns c = search needs
@@ -31,6 +31,6 @@ run-spec =
     (tie.spec
     answer-requires
     array-share-prefix-line
-    slice-aggregate-write-all
-    write-all-requires
+    slice-aggregate-print
+    print-requires
     returns)

@@ -1,14 +1,16 @@
--- What was read lies within the buffer.
+-- What was read lies within the buffer, and so does what is printed.
 use mathlib.Core.Path.{sym}
+use native.Mathlib.Omega.{arith}
+use lib.ListN.{length-take}
 use lib.Seq.{length-take-le}
+use Rattle.cec_prove.proofs.StreamLaws.{within}
 use borrow.Author.Needs.{needs}
 use Rattle.cec_prove.proofs.main.Statement.{statement}
 use Rattle.cec_prove.proofs.main.Tie as tie
 use Rattle.cec_prove.proofs.main.Reads as reads
 use Rattle.cec_prove.proofs.main.Lts as lts
-use Rattle.cec_prove.proofs.proof_room.Reads as proof-room-reads
-use Rattle.cec_prove.proofs.run.Reads as run-reads
-use Rattle.cec_prove.proofs.work_room.Reads as work-room-reads
+use Rattle.cec_prove.proofs.evidence.evidence.Reads as evidence-reads
+use Rattle.cec_prove.proofs.print.Reads as print-reads
 use Rattle.io.proofs.write_all.Reads as write-all-reads
 use Rattle.streams.proofs.read_stream.Reads as read-stream-reads
 use Rattle.streams.proofs.room.Reads as room-reads
@@ -37,28 +39,34 @@ write-all-requires c κs = search needs
 returns : tie.Need-returns
 returns c = search needs
 
-proof-room-requires : tie.Need-proof-room-requires
-proof-room-requires c κs = search needs
-
-work-room-requires : tie.Need-work-room-requires
-work-room-requires c κs = search needs
-
 array-share-prefix-stream : tie.Need-array-share-prefix-stream
-array-share-prefix-stream c = rw (c .before .before .before .n .given .1) at (c .before .before .before .before .before .before .read-stream .ensures)
+array-share-prefix-stream c = rw (c .before .n .given .1) at (c .before .before .before .before .read-stream .ensures)
 
-slice-aggregate-run : tie.Need-slice-aggregate-run
-slice-aggregate-run c =
-    let h = rw (c .before .before .before .before .n .given .1) at (c .before .before .before .before .before .before .before .read-stream .ensures) in
+slice-aggregate-evidence : tie.Need-slice-aggregate-evidence
+slice-aggregate-evidence c =
+    let h = rw (c .before .before .n .given .1) at (c .before .before .before .before .before .read-stream .ensures) in
     sym (length-take-le _ _ h)
 
-slice-aggregate-run-2 : tie.Need-slice-aggregate-run-2
-slice-aggregate-run-2 c = search needs
+evidence-requires : tie.Need-evidence-requires
+evidence-requires c κs = search needs
 
-slice-aggregate-run-3 : tie.Need-slice-aggregate-run-3
-slice-aggregate-run-3 c = search needs
+array-share-prefix-stream-2 : tie.Need-array-share-prefix-stream-2
+array-share-prefix-stream-2 c =
+    let n = c .before .before .before .before .before .n .given .0 .0 in
+    let buffer = c .before .before .before .before .before .before .before .before .read-stream .last .0 in
+    omega (arith, c .evidence .ensures .of-stream, length-take n buffer)
 
-run-requires : tie.Need-run-requires
-run-requires c κs = search needs
+slice-aggregate-print : tie.Need-slice-aggregate-print
+slice-aggregate-print c = sym (length-take-le _ _ (array-share-prefix-stream-2 (c .before)))
+
+array-share-prefix-out : tie.Need-array-share-prefix-out
+array-share-prefix-out c = within _ (c .before .evidence .ensures)
+
+slice-aggregate-print-2 : tie.Need-slice-aggregate-print-2
+slice-aggregate-print-2 c = sym (length-take-le _ _ (array-share-prefix-out (c .before)))
+
+print-requires : tie.Need-print-requires
+print-requires c κs = search needs
 
 returns-2 : tie.Need-returns-2
 returns-2 c = search needs
@@ -75,11 +83,12 @@ main-spec =
     slice-aggregate-write-all
     write-all-requires
     returns
-    proof-room-requires
-    work-room-requires
     array-share-prefix-stream
-    slice-aggregate-run
-    slice-aggregate-run-2
-    slice-aggregate-run-3
-    run-requires
+    slice-aggregate-evidence
+    evidence-requires
+    array-share-prefix-stream-2
+    slice-aggregate-print
+    array-share-prefix-out
+    slice-aggregate-print-2
+    print-requires
     returns-2)

@@ -1,6 +1,6 @@
-//! Runs of the built programs, and standard input of several sorts for them. They lie in the folder
-//! that CEC_BIN_DIR names, or else where the project's build leaves them. A relative folder counts
-//! from this crate's manifest.
+//! Runs of the built programs, and standard input and output of several sorts for them. They lie in
+//! the folder that CEC_BIN_DIR names, or else where the project's build leaves them. A relative
+//! folder counts from this crate's manifest.
 
 use std::env;
 use std::fs::{self, File, OpenOptions};
@@ -58,10 +58,13 @@ fn file(program: &str) -> PathBuf {
     file
 }
 
-fn start(call: Call, input: Stdio) -> Child {
+fn start(call: Call, input: Stdio, output: Stdio) -> Child {
     let mut command = Command::new(file(call.program));
-    let command = command.args(call.arguments).stdin(input);
-    let command = command.stdout(Stdio::piped()).stderr(Stdio::piped());
+    spawn(command.args(call.arguments), input, output)
+}
+
+fn spawn(command: &mut Command, input: Stdio, output: Stdio) -> Child {
+    let command = command.stdin(input).stdout(output).stderr(Stdio::piped());
     command.spawn().expect("the program starts")
 }
 
@@ -72,7 +75,18 @@ pub fn run<'words>(call: impl Into<Call<'words>>, text: &[u8]) -> Ended {
 
 /// The same with the input written in pieces of this length, so that it is read in pieces too.
 pub fn run_in_pieces<'words>(call: impl Into<Call<'words>>, text: &[u8], length: usize) -> Ended {
-    let mut child = start(call.into(), Stdio::piped());
+    let child = start(call.into(), Stdio::piped(), Stdio::piped());
+    finish_on(child, text, length)
+}
+
+/// Runs a program on this standard input with this standard output.
+pub fn run_to<'words>(call: impl Into<Call<'words>>, text: &[u8], output: Stdio) -> Ended {
+    let child = start(call.into(), Stdio::piped(), output);
+    finish_on(child, text, text.len().max(1))
+}
+
+/// Gives the program its standard input in pieces of this length.
+fn finish_on(mut child: Child, text: &[u8], length: usize) -> Ended {
     let mut input = child.stdin.take().expect("standard input is a pipe");
     let text = text.to_vec();
     finish(child, move || {
@@ -90,17 +104,18 @@ pub fn run_in_pieces<'words>(call: impl Into<Call<'words>>, text: &[u8], length:
 
 /// Runs a program whose standard input is this.
 pub fn run_on<'words>(call: impl Into<Call<'words>>, input: Stdio) -> Ended {
-    finish(start(call.into(), input), || ())
+    finish(start(call.into(), input, Stdio::piped()), || ())
 }
 
-/// Waits until the program has ended; meanwhile `feed` gives it its input.
+/// Waits until the program has ended; meanwhile `feed` gives it its input. What it wrote elsewhere
+/// than to a pipe is not in the answer.
 fn finish(mut child: Child, feed: impl FnOnce() + Send + 'static) -> Ended {
-    let mut printed = child.stdout.take().expect("standard output is a pipe");
-    let mut errors = child.stderr.take().expect("standard error is a pipe");
+    let printed = child.stdout.take();
+    let errors = child.stderr.take();
     let (sender, receiver) = mpsc::channel();
     let talk = thread::spawn(move || {
         feed();
-        let outputs = [read(&mut printed), read(&mut errors)];
+        let outputs = [printed.map_or(vec![], read), errors.map_or(vec![], read)];
         sender.send(outputs).expect("the test still waits");
     });
     let Ok([printed, errors]) = receiver.recv_timeout(LIMIT) else {
@@ -116,7 +131,7 @@ fn finish(mut child: Child, feed: impl FnOnce() + Send + 'static) -> Ended {
     }
 }
 
-fn read(output: &mut impl Read) -> Vec<u8> {
+fn read(mut output: impl Read) -> Vec<u8> {
     let mut bytes = Vec::new();
     output.read_to_end(&mut bytes).expect("the pipe is read");
     bytes
@@ -146,6 +161,33 @@ pub fn only_complains(program: &str, ended: Ended) {
     assert!(ended.errors.starts_with(name.as_bytes()), "{ended:?}");
     assert!(ended.errors.ends_with(b"\n"), "{ended:?}");
     assert_eq!(ended.status, Some(0));
+}
+
+/// Standard output that takes nothing, as on a full disk: a message says so.
+#[track_caller]
+pub fn is_unwritten<'words>(call: impl Into<Call<'words>>, text: &[u8]) {
+    let call = call.into();
+    let full = OpenOptions::new().write(true).open("/dev/full");
+    let output = full.expect("the system has it").into();
+    only_complains_of_output(call.program, run_to(call, text, output));
+}
+
+/// The program said that not all of its output was written, and nothing else.
+#[track_caller]
+pub fn only_complains_of_output(program: &str, ended: Ended) {
+    let message = format!("{program}: standard output was not written to its end\n");
+    assert_eq!(String::from_utf8_lossy(&ended.errors), message);
+    assert_eq!(ended.status, Some(0));
+}
+
+/// Runs a program whose standard output is this file, which may grow to so many blocks of 512 bytes.
+pub fn run_cut_off(program: &str, text: &[u8], output: &Path, blocks: usize) -> Ended {
+    // The signal at the limit (25, XFSZ) is ignored, so that the write fails as on a full disk.
+    let limit = format!("trap '' 25; ulimit -f {blocks}; exec \"$0\"");
+    let output = File::create(output).expect("the file is made").into();
+    let mut command = Command::new("sh");
+    let command = command.arg("-c").arg(limit).arg(file(program));
+    finish_on(spawn(command, Stdio::piped(), output), text, text.len())
 }
 
 /// Runs a program on this file with these bytes.

@@ -1,67 +1,56 @@
--- Too long, with both buffers cleared, or the engine's promise as evidence (`StreamLaws`).
-use mathlib.Core.Path.{_≡_, refl}
+-- Each arm knows its case of the answer; a proof lies within the buffer, and a report has digits for its line (`StreamLaws`).
 use native.Mathlib.Omega.{arith}
+use mathlib.Core.Path.{_≡_}
 use denote.Ref.{now}
 use lib.ListN.{length}
-use Rattle.checker.proofs.VerdictLaws.{cleared}
-use Rattle.cec_prove.proofs.StreamLaws.{too-long, made}
+use Rattle.cec_prove.specs.Streams.{proofBytes}
+use Rattle.cec_prove.proofs.StreamLaws.{proof-printed, report-printed}
 use borrow.Author.Needs.{needs}
 use Rattle.cec_prove.proofs.evidence.evidence.Statement.{statement}
 use Rattle.cec_prove.proofs.evidence.evidence.Tie as tie
 use Rattle.cec_prove.proofs.evidence.evidence.Reads as reads
 use Rattle.cec_prove.proofs.evidence.evidence.Lts as lts
-use Rattle.checker.proofs.clearing.clear_from.Reads as clear-from-reads
-use Rattle.engine.proofs.prove.Reads as prove-reads
-use Rattle.frame.proofs.fields.clear.Reads as clear-reads
+use Rattle.cec_prove.proofs.evidence.prove_stream.Reads as prove-stream-reads
+use Rattle.frame.proofs.write_frame.Reads as write-frame-reads
 
-clear-requires : tie.Need-clear-requires
-clear-requires c κs = search needs
+prove-stream-requires : tie.Need-prove-stream-requires
+prove-stream-requires c κs = search needs
 
-clear-from-requires : tie.Need-clear-from-requires
-clear-from-requires c κs = search needs
+enum-known-proved : tie.Need-enum-known-proved
+enum-known-proved c = search needs
 
-same-length : tie.Need-same-length
-same-length c = search needs
+mul-behind : tie.Need-mul-behind
+mul-behind c =
+    let h = rw (c .before .proved .given .1) at (c .before .before .before .prove-stream .ensures) in
+    omega (arith, h .4)
 
-same-length-2 : tie.Need-same-length-2
-same-length-2 c = search needs
+enum-known-proved-2 : tie.Need-enum-known-proved-2
+enum-known-proved-2 c = search needs
+
+write-frame-requires : tie.Need-write-frame-requires
+write-frame-requires c κs = search needs
 
 returns : tie.Need-returns
 returns c =
-    let a = c .before .before .before .before .before .before .before .before .before .before .before .before .args in
-    let f = c .before .before .clear-from in (
-      too-long (now (a .stream)) _ _ (c .before .before .before .before .before .before .before .before .if1 .taken),
-      omega arith,
-      c .before .before .before .before .before .before .clear .ensures,
-      cleared (now (a .work)) (f .last .0) _ refl (f .ensures),
-    )
-
-prove-requires : tie.Need-prove-requires
-prove-requires c κs = search needs
-
-same-length-3 : tie.Need-same-length-3
-same-length-3 c = search needs
-
-same-length-4 : tie.Need-same-length-4
-same-length-4 c = search needs
+    let a = c .before .before .before .before .before .before .before .args in
+    let h = rw (c .before .proved .given .1) at (c .before .before .before .prove-stream .ensures) in
+    proof-printed (now (a .stream)) _ _ (omega arith) (omega arith) h
 
 returns-2 : tie.Need-returns-2
 returns-2 c =
-    let a = c .before .before .before .before .before .before .before .before .before .before .before .args in
-    let p = c .before .before .before .before .prove in
-    let m : length (p .last .1 .0) ≡ length (now (a .proof)) = search needs in
-    made (now (a .stream)) (length (now (a .proof))) (length (now (a .work))) (p .last .1 .0) (p .last .1 .1 .0) (omega (arith, c .before .before .before .before .before .before .before .if1 .left)) m (p .result) (p .ensures)
+    let a = c .before .before .before .before .before .before .before .before .before .args in
+    let h = rw (c .before .before .before .proved2 .given .1) at (c .before .before .before .before .before .prove-stream .ensures) in
+    let long : length (c .before .before .before .before .before .prove-stream .last .1 .0) ≡ proofBytes = search needs in
+    report-printed (now (a .stream)) _ _ _ (omega arith) (omega arith) (h .0) (h .1) (rw long at (c .write-frame .ensures .1))
 
 pub evidence-spec : {M : Type 1} → statement M
 evidence-spec =
     tie.close
     (tie.spec
-    clear-requires
-    clear-from-requires
-    same-length
-    same-length-2
+    prove-stream-requires
+    enum-known-proved
+    mul-behind
+    enum-known-proved-2
+    write-frame-requires
     returns
-    prove-requires
-    same-length-3
-    same-length-4
     returns-2)
