@@ -1,3 +1,4 @@
 pub mod Definitions
+pub mod Resolvents
 pub mod Bench
 pub mod Refusals
