@@ -3,7 +3,7 @@
 use Prim.Native.Nat.{ℕ}
 use Prim.Native.String.{String}
 use mathlib.Core.Path.{_≡_, refl}
-use mathlib.Core.Bool.{true, false}
+use mathlib.Core.Bool.{false}
 use mathlib.Core.List.{List, [], _∷_, _++_}
 use lib.ListN.{length, drop}
 use Rattle.model.specs.Answers.{guard, zeros}
