@@ -1,5 +1,6 @@
-//! Tells the linker where the static library is: in the folder that CEC_ARCHIVE_DIR names, or else
-//! where the project's build leaves it. A relative folder counts from this crate's manifest.
+//! Tells the linker where the static library is: where this checkout's build leaves it, or in the
+//! folder that CEC_ARCHIVE_DIR names, which a warning then says. A relative folder counts from this
+//! crate's manifest, wherever cargo's own target folder is.
 
 use std::env;
 use std::path::{Path, PathBuf};
@@ -9,8 +10,16 @@ const DEFAULT_DIR: &str = "../../target/staticlib";
 fn archive_dir() -> PathBuf {
     let manifest_dir =
         env::var_os("CARGO_MANIFEST_DIR").expect("cargo names the manifest's folder");
-    let dir = env::var_os("CEC_ARCHIVE_DIR").unwrap_or_else(|| DEFAULT_DIR.into());
-    Path::new(&manifest_dir).join(dir)
+    let named = env::var_os("CEC_ARCHIVE_DIR").filter(|dir| !dir.is_empty());
+    let dir = Path::new(&manifest_dir).join(named.as_deref().unwrap_or(DEFAULT_DIR.as_ref()));
+    if named.is_some() {
+        // An inherited variable must not go unseen: the tests then judge another library.
+        println!(
+            "cargo:warning=the library is taken from {}, as CEC_ARCHIVE_DIR says",
+            dir.display()
+        );
+    }
+    dir
 }
 
 fn main() {

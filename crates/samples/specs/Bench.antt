@@ -1,17 +1,21 @@
--- The samples marked P of document 01, 'Bench samples', proved together as one table by computing the definitions.
-use Prim.Native.Nat.{ℕ}
+-- The samples marked P of document 01, 'Bench samples', proved together as one table, by computing the definitions where nothing is left open.
+use Prim.Native.Nat.{ℕ, _/_}
 use Prim.Native.String.{String}
 use mathlib.Core.Path.{_≡_, refl}
-use mathlib.Core.Bool.{true, false}
-use mathlib.Core.List.{List, [], _∷_, _++_}
-use Rattle.model.specs.Evaluator.{evaluate}
+use mathlib.Core.Bool.{Bool, true, false}
+use mathlib.Core.List.{List, [], _∷_, _++_, map}
 use Rattle.model.specs.Answers.Answer.{ok}
-use Rattle.model.specs.Clauses.{resolvent}
+use Rattle.model.specs.Nets.{Netlist, odd, literal, run, word, Agree}
+use Rattle.model.specs.Nets.Op.{and, xor}
+use Rattle.model.specs.Lists.{readOne, readLists}
+use Rattle.model.specs.Evaluator.{evaluate}
+use Rattle.model.specs.Clauses.{positive, negative, clauseOf, resolvent}
 use Rattle.model.specs.Checker.{check, program}
 use Rattle.model.specs.Forms.{foldXor, form, flip}
 use Rattle.model.specs.Forms.Core.{leaf}
 use Rattle.model.specs.Engine.{provable}
 use Rattle.samples.specs.Definitions.{definitions, bytes, saysOf}
+use Rattle.samples.specs.Resolvents.{Beside, both-signs}
 
 -- a AND a on the left, a on the right, and the proof that they agree
 abbrev lists : List ℕ
@@ -20,13 +24,17 @@ lists = bytes "0101000101\n0200020002\n040004\n0101000001\n040002\n"
 abbrev proof : List ℕ
 proof = bytes "11000500020002\n11000400080002\n11000A000B0001\n110009000C0003\n"
 
+-- its second to fourth line
+abbrev behind : List ℕ
+behind = bytes "11000400080002\n11000A000B0001\n110009000C0003\n"
+
 -- 4,096 clauses
 abbrev store : ℕ
 store = 32768
 
--- what the checker says of lines behind these lists, what it says of a list alone, and what the engine says
-abbrev onLines : String → ℕ × ℕ
-onLines s = saysOf (check (lists ++ bytes s) store)
+-- what the checker says of this proof with another first step, what it says of a list alone, and what the engine says
+abbrev onFirst : String → ℕ × ℕ
+onFirst s = saysOf (check (lists ++ bytes s ++ behind) store)
 
 abbrev onText : String → ℕ × ℕ
 onText s = saysOf (check (bytes s) 0)
@@ -41,6 +49,30 @@ threeAnds = bytes "0102000301\n0200020004\n0200030005\n0200070009\n04000A\n"
 abbrev oneXor : List ℕ
 oneXor = bytes "0102000101\n0300020004\n040006\n"
 
+-- what these texts are read to
+abbrev ands : Netlist
+ands =
+    record {
+      inputs = 2;
+      gates = record { op = and; x = 2; y = 4 } ∷ record { op = and; x = 3; y = 5 } ∷ record { op = and; x = 7; y = 9 } ∷ [];
+      outs = 10 ∷ [];
+    }
+
+abbrev gate : Netlist
+gate = record { inputs = 2; gates = record { op = xor; x = 2; y = 4 } ∷ []; outs = 6 ∷ [] }
+
+-- the word of a list of two inputs, by their values
+abbrev wordAt : Netlist → Bool → Bool → ℕ
+wordAt n a b = word (map (literal (run (false ∷ a ∷ b ∷ []) (n .gates))) (n .outs))
+
+-- every pattern gives the two inputs one of four pairs of values
+agree : (a b : Bool) → wordAt ands a b ≡ wordAt gate a b
+unfolding definitions
+agree true true = refl
+agree true false = refl
+agree false true = refl
+agree false false = refl
+
 record Samples : Type 0 where
   -- the report frame: accepted, line 0, 4 steps, 13 clauses
   P1 : program (lists ++ proof) ≡ bytes "21000000000004000D\n"
@@ -50,12 +82,15 @@ record Samples : Type 0 where
   P2-not-last : saysOf (check (lists ++ proof ++ bytes "11000500020002\n") store) ≡ (15, 0)
   P2-faulty-behind : saysOf (check (lists ++ proof ++ bytes "11000500020001\n") store) ≡ (10, 10)
   -- first step with variable 1
-  P3 : onLines "11000500020001\n" ≡ (10, 6)
+  P3 : onFirst "11000500020001\n" ≡ (10, 6)
   -- first step naming clause 10; clause 9 exists
-  P4 : onLines "11000A00020002\n" ≡ (9, 6)
-  P4-exists : onLines "11000900020002\n" ≡ (10, 6)
-  -- (v, ¬v, c) with (¬v, d) on v gives (¬v, c, d), for v, c, d = 3, 5, 6
-  P5 : resolvent 3 (6 ∷ 7 ∷ 10 ∷ []) (7 ∷ 12 ∷ []) ≡ 7 ∷ 10 ∷ 12 ∷ []
+  P4 : onFirst "11000A00020002\n" ≡ (9, 6)
+  P4-exists : onFirst "11000900020002\n" ≡ (10, 6)
+  -- (v, ¬v, c) with (¬v, d) on v gives (¬v, c, d): for every v and all literals c and d, those of c over other variables; and as variables 3,
+  -- 5, 6
+  P5 : (v : ℕ) (c d : List ℕ) → Beside v c
+      → resolvent v (clauseOf (positive v ∷ negative v ∷ c)) (clauseOf (negative v ∷ d)) ≡ clauseOf (negative v ∷ c ++ d)
+  P5-computed : resolvent 3 (6 ∷ 7 ∷ 10 ∷ []) (7 ∷ 12 ∷ []) ≡ 7 ∷ 10 ∷ 12 ∷ []
   -- 104 store numbers suffice, 72 get past the miter
   P6-suffice : saysOf (check (lists ++ proof) 104) ≡ (0, 0)
   P6-short : saysOf (check (lists ++ proof) 103) ≡ (14, 9)
@@ -80,12 +115,12 @@ record Samples : Type 0 where
   -- AND of a, b against AND of b, a
   P11 : onPair "0102000101\n0200020004\n040006\n0102000101\n0200040002\n040006\n" ≡ (0, 0)
   P11-xor : foldXor (form true (leaf 1)) (form false (leaf 2)) ≡ flip true (foldXor (form false (leaf 1)) (form false (leaf 2)))
-  -- 18 at output 1, though they agree on the four patterns of two inputs
+  -- 18 at output 1, though the lists that are read agree on every pattern
   P12 : saysOf (provable (threeAnds ++ oneXor) 60000 1000) ≡ (18, 1)
-  P12-agree-0 : evaluate threeAnds 0 6 ≡ evaluate oneXor 0 4
-  P12-agree-1 : evaluate threeAnds 1 6 ≡ evaluate oneXor 1 4
-  P12-agree-2 : evaluate threeAnds 2 6 ≡ evaluate oneXor 2 4
-  P12-agree-3 : evaluate threeAnds 3 6 ≡ evaluate oneXor 3 4
+  P12-lists : readLists (threeAnds ++ oneXor) ≡ ok (record { left = ands; right = gate })
+  P12-left : readOne threeAnds ≡ ok ands
+  P12-right : readOne oneXor ≡ ok gate
+  P12-agree : Agree ands gate
   P12-xor-of-1 : evaluate oneXor 1 4 ≡ ok 1
 
 samples : Samples
@@ -98,7 +133,8 @@ samples = record {
   P3 = refl;
   P4 = refl;
   P4-exists = refl;
-  P5 = refl;
+  P5 = both-signs;
+  P5-computed = refl;
   P6-suffice = refl;
   P6-short = refl;
   P6-past = refl;
@@ -119,9 +155,9 @@ samples = record {
   P11 = refl;
   P11-xor = refl;
   P12 = refl;
-  P12-agree-0 = refl;
-  P12-agree-1 = refl;
-  P12-agree-2 = refl;
-  P12-agree-3 = refl;
+  P12-lists = refl;
+  P12-left = refl;
+  P12-right = refl;
+  P12-agree = λ p. agree (odd p) (odd (p / 2));
   P12-xor-of-1 = refl;
 }

@@ -3,7 +3,7 @@
 use Prim.Native.Nat.{ℕ}
 use Prim.Native.String.{String}
 use mathlib.Core.Path.{_≡_, refl}
-use mathlib.Core.Bool.{true, false}
+use mathlib.Core.Bool.{false}
 use mathlib.Core.List.{List, [], _∷_, _++_}
 use lib.ListN.{length, drop}
 use Rattle.model.specs.Answers.{guard, zeros}
@@ -41,6 +41,11 @@ record Lines : Type 0 where
   no-range-checks : lone "01FFFFFF00\n" ≡ (0, 0)
   unended : lone "040002" ≡ (2, 1)
   small-letter : lone "04000a\n" ≡ (2, 1)
+  -- the bytes before 0, behind 9, before A and behind F
+  slash : lone "04000/\n" ≡ (2, 1)
+  colon : lone "04000:\n" ≡ (2, 1)
+  at-sign : lone "04000@\n" ≡ (2, 1)
+  letter-g : lone "04000G\n" ≡ (2, 1)
   carriage-return : lone "040002\r\n" ≡ (2, 1)
   byte-before-kind : lone "99000G\n" ≡ (2, 1)
   empty-line : lone "\n" ≡ (3, 1)
@@ -63,6 +68,10 @@ lines-samples = record {
   no-range-checks = refl;
   unended = refl;
   small-letter = refl;
+  slash = refl;
+  colon = refl;
+  at-sign = refl;
+  letter-g = refl;
   carriage-return = refl;
   byte-before-kind = refl;
   empty-line = refl;
@@ -86,8 +95,9 @@ one s = saysOf (readOne (bytes s))
 abbrev two : String → ℕ × ℕ
 two s = saysOf (readLists (bytes s))
 
-abbrev checked : String → ℕ × ℕ
-checked s = saysOf (check (bytes s) 32768)
+-- two lists of four lines, and this behind them
+abbrev behindLists : String → ℕ × ℕ
+behindLists s = saysOf (check (bytes "0101000001\n040002\n0101000001\n040002\n" ++ bytes s) 32768)
 
 record ListTexts : Type 0 where
   whole : one "0101000001\n040003\n" ≡ (0, 0)
@@ -101,8 +111,17 @@ record ListTexts : Type 0 where
   range-before-unlike : two "0101000001\n040002\n0141000001\n040002\n" ≡ (5, 3)
   gates-may-differ : two "0101000001\n040002\n0101000101\n0200020002\n040002\n" ≡ (0, 0)
   own-nets : two "0101000101\n0200020002\n040004\n0101000001\n040004\n" ≡ (7, 5)
-  list-kind-in-proof : checked "0101000001\n040002\n0101000001\n040002\n040002\n" ≡ (3, 5)
-  no-proof-line : checked "0101000001\n040002\n0101000001\n040002\n" ≡ (15, 0)
+  -- no kind but 11, 12 and 13 is a proof line's
+  header-in-proof : behindLists "0101000001\n" ≡ (3, 5)
+  and-in-proof : behindLists "0200020002\n" ≡ (3, 5)
+  xor-in-proof : behindLists "0300020002\n" ≡ (3, 5)
+  output-in-proof : behindLists "040002\n" ≡ (3, 5)
+  report-in-proof : behindLists "210000000000000000\n" ≡ (3, 5)
+  -- each of these three is one, though none here ends the proof
+  resolve-in-proof : behindLists "11000400010000\n" ≡ (10, 5)
+  extend-and-in-proof : behindLists "1200020002\n" ≡ (15, 0)
+  extend-xor-in-proof : behindLists "1300020002\n" ≡ (15, 0)
+  no-proof-line : behindLists "" ≡ (15, 0)
 
 list-samples : ListTexts
 unfolding definitions
@@ -118,7 +137,14 @@ list-samples = record {
   range-before-unlike = refl;
   gates-may-differ = refl;
   own-nets = refl;
-  list-kind-in-proof = refl;
+  header-in-proof = refl;
+  and-in-proof = refl;
+  xor-in-proof = refl;
+  output-in-proof = refl;
+  report-in-proof = refl;
+  resolve-in-proof = refl;
+  extend-and-in-proof = refl;
+  extend-xor-in-proof = refl;
   no-proof-line = refl;
 }
 

@@ -1,15 +1,15 @@
-//! Runs of the built programs, and standard input and output of several sorts for them. They lie in
-//! the folder that CEC_BIN_DIR names, or else where the project's build leaves them. A relative
-//! folder counts from this crate's manifest.
+//! Runs of the built programs, and standard input and output of several sorts for them. They lie
+//! where this checkout's build leaves them, or in the folder that CEC_BIN_DIR names, which is then
+//! printed. A relative folder counts from this crate's manifest.
 
 use std::env;
 use std::fs::{self, File, OpenOptions};
-use std::io::{ErrorKind, Read, Write};
+use std::io::{stderr, ErrorKind, Read, Write};
 use std::os::fd::OwnedFd;
 use std::os::unix::net::UnixStream;
 use std::path::{Path, PathBuf};
 use std::process::{Child, Command, Stdio};
-use std::sync::mpsc;
+use std::sync::{mpsc, OnceLock};
 use std::thread;
 use std::time::Duration;
 
@@ -44,11 +44,28 @@ impl<'words> From<&'words str> for Call<'words> {
     }
 }
 
+/// The programs' folder.
+fn dir() -> &'static Path {
+    static DIR: OnceLock<PathBuf> = OnceLock::new();
+    DIR.get_or_init(|| {
+        let named = env::var_os("CEC_BIN_DIR").filter(|dir| !dir.is_empty());
+        let dir = Path::new(env!("CARGO_MANIFEST_DIR"));
+        let dir = dir.join(named.as_deref().unwrap_or(DEFAULT_DIR.as_ref()));
+        if named.is_some() {
+            // Not by `eprintln`, which a test that passes keeps to itself.
+            let said = format!(
+                "the programs are taken from {}, as CEC_BIN_DIR says\n",
+                dir.display()
+            );
+            stderr().write_all(said.as_bytes()).expect("it is said");
+        }
+        dir
+    })
+}
+
 /// A program's file.
 fn file(program: &str) -> PathBuf {
-    let dir = env::var_os("CEC_BIN_DIR").unwrap_or_else(|| DEFAULT_DIR.into());
-    let dir = Path::new(env!("CARGO_MANIFEST_DIR")).join(dir);
-    let file = dir.join(program);
+    let file = dir().join(program);
     assert!(
         file.is_file(),
         "{} is missing: build it first by `rt check {program}` in the repository's folder, or name \

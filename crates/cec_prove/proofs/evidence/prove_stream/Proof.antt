@@ -4,7 +4,7 @@ use native.Mathlib.Omega.{arith}
 use denote.Ref.{now}
 use lib.ListN.{length}
 use Rattle.cec_prove.specs.Streams.{proofBytes, workingNumbers}
-use Rattle.checker.proofs.VerdictLaws.{cleared}
+use Rattle.frame.proofs.ClearLaws.{cleared}
 use Rattle.cec_prove.proofs.StreamLaws.{too-long, answered}
 use borrow.Author.Needs.{needs}
 use Rattle.cec_prove.proofs.evidence.prove_stream.Statement.{statement}
