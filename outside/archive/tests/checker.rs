@@ -9,7 +9,7 @@ use cec_reference::sample::PROOF;
 use common::extensions::{all_variables, refute_smallest, EXTENSIONS};
 use common::lists::{List, LARGEST};
 use common::pairs::MOST_INPUTS;
-use common::proof_texts::{self, bench, ProofText, P5};
+use common::proof_texts::{self, bench, bench_from, ProofText, P5};
 use common::proofs::{Proof, Step};
 use common::random::{seed, Random};
 use common::sizes::{EIGHT, MOST_CLAUSES};
@@ -237,18 +237,18 @@ fn samples_p2_to_p6() {
     let enough = 104;
     replies(&bench(&PROOF[..3]), enough, [15, 0, 0, 0]);
     replies(&bench(&[]), enough, [15, 0, 0, 0]);
-    replies(&bench(&["11000500020001\n"]), enough, [10, 6, 0, 0]);
+    replies(&bench_from("11000500020001\n"), enough, [10, 6, 0, 0]);
     for pivot in ["0000", "0003", "0004", "4002", "8002", "C002", "FFFF"] {
         let step = format!("1100050002{pivot}\n");
-        replies(&bench(&[&step]), enough, [10, 6, 0, 0]);
+        replies(&bench_from(&step), enough, [10, 6, 0, 0]);
     }
     for clause in ["0000", "000A", "000B", "0105", "8005", "FFFF"] {
         let first = format!("11{clause}00020002\n");
-        replies(&bench(&[&first]), enough, [9, 6, 0, 0]);
+        replies(&bench_from(&first), enough, [9, 6, 0, 0]);
         let second = format!("110005{clause}0002\n");
-        replies(&bench(&[&second]), enough, [9, 6, 0, 0]);
+        replies(&bench_from(&second), enough, [9, 6, 0, 0]);
     }
-    replies(&bench(&["11000900020002\n"]), enough, [10, 6, 0, 0]);
+    replies(&bench_from("11000900020002\n"), enough, [10, 6, 0, 0]);
     for length in 0..120 {
         let reply = match length / 8 {
             0..=8 => [8, 0, 0, 0],

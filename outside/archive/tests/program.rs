@@ -8,7 +8,7 @@ use std::path::{Path, PathBuf};
 use cec_reference::report;
 use cec_reference::sample::{LISTS, PROOF};
 use common::programs::{self, printed, Ended};
-use common::proof_texts::{self, bench, P5};
+use common::proof_texts::{self, bench, bench_from, P5};
 use common::random::{seed, Random};
 use common::tally::{outcomes, Tally};
 use common::texts::{self, digits};
@@ -53,8 +53,8 @@ fn prints(text: &str, line: &str) {
 fn samples_p1_to_p5() {
     prints(&bench(&PROOF), "21000000000004000D");
     prints(&bench(&PROOF[..3]), "210F00000000000000");
-    prints(&bench(&["11000500020001\n"]), "210A00000600000000");
-    prints(&bench(&["11000A00020002\n"]), "210900000600000000");
+    prints(&bench_from("11000500020001\n"), "210A00000600000000");
+    prints(&bench_from("11000A00020002\n"), "210900000600000000");
     prints(P5, "210000000000070013");
 }
 

@@ -1,6 +1,6 @@
 //! Texts of proofs: whole ones, ones that end otherwise, and ones with a fault at some line.
 
-use cec_reference::sample::LISTS;
+use cec_reference::sample::{LISTS, PROOF};
 use cec_reference::Literal;
 
 use super::calls::line;
@@ -19,6 +19,11 @@ pub const P5: &str = "0101000101\n0300020002\n040004\n0101000001\n040000\n\
 /// The bench sample with these lines as its proof.
 pub fn bench(proof: &[&str]) -> String {
     format!("{LISTS}{}", proof.concat())
+}
+
+/// The bench sample with another first step, and its other three steps behind it.
+pub fn bench_from(first: &str) -> String {
+    bench(&[first, PROOF[1], PROOF[2], PROOF[3]])
 }
 
 /// A text for the checker.

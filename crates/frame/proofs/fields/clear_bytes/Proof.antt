@@ -1,7 +1,7 @@
 -- The invariant: zeros from the place on as far as the loop went, and behind them what the buffer held (`ClearLaws`). The measure is what is
 -- left of it.
 use Prim.Native.Nat.{_+_, _-_, _≤_}
-use mathlib.Core.Path.{_≡_, refl, ap, _∙_}
+use mathlib.Core.Path.{_≡_, refl, _∙_}
 use native.Mathlib.Omega.{arith}
 use borrow.Author.Needs.{needs}
 use denote.Ref.{now}
