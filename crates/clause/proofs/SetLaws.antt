@@ -8,7 +8,7 @@ use native.Mathlib.Omega.{arith}
 use lib.Dec.{eqb, ltb}
 use borrow.Author.Tests.{lt-ltb, le-ltb, eq-eqb, ne-eqb, ltb-true, ltb-false, eqb-true, eqb-false}
 use Rattle.model.specs.Clauses.{Clause, insert, join, clauseOf, without, holds, positive, negative, resolvent}
-use Rattle.sets.specs.Bools.{by-cond}
+use Rattle.laws.specs.Bools.{by-cond}
 use Rattle.clause.specs.Sets.{literalBound, headOf, Rising}
 
 -- ---- taking out

@@ -11,14 +11,14 @@ use borrow.Author.Tests.{eqb-true, eqb-false, ne-eqb}
 use Rattle.model.specs.Limits.{linesPerGate}
 use Rattle.model.specs.Nets.{netOf}
 use Rattle.model.specs.Clauses.{Clause, neg}
-use Rattle.sets.specs.Bools.{by-cond}
+use Rattle.laws.specs.Bools.{by-cond}
 use Rattle.fold_laws.specs.Signs.{signed-back}
 use Rattle.fold_laws.specs.Cases.{AndCase, AndIs, andMade, XorCase, XorIs, xorMade}
 use Rattle.fold_laws.specs.Cases.AndCase.{nil, pass, opp, pair}
 use Rattle.fold_laws.specs.Cases.XorCase.{pass, same, pair}
 use Rattle.fold_laws.specs.Table.{Entry, repOf}
 use Rattle.fold_laws.specs.Facts.{Laws, Keyed, Stands, stands-below}
-use Rattle.sets.specs.Sets.{Same, flat, sets}
+use Rattle.emit_laws.specs.Sets.{Same, flat, sets}
 use Rattle.emit_laws.specs.Trees.{Tree, size, sizes, Derives, derives-same, Claim, Gives, Met, All₂}
 use Rattle.emit_laws.specs.Trees.Tree.{old, cut}
 use Rattle.emit_laws.specs.Trees.Derives.{given}

@@ -10,7 +10,7 @@ use Rattle.model.specs.Nets.{Gate, Netlist, netOf}
 use Rattle.model.specs.Clauses.{Clause, positive, negative, neg, allClauses}
 use Rattle.model.specs.Miter.{ws, firstGate, firstZ, firstW, gatesOf, zGates, miter}
 use Rattle.model.specs.Engine.{lineBound}
-use Rattle.sets.specs.Bools.{below-or-at}
+use Rattle.laws.specs.Bools.{below-or-at}
 use Rattle.laws.specs.Pairs.{Pair}
 use Rattle.laws.specs.MiterOrder.{last, length-gates, length-z, z-at, ordered-gates, plain-gates}
 use Rattle.fold_laws.specs.Table.{Entry, repOf}

@@ -16,7 +16,7 @@ use Rattle.fold_laws.specs.Cases.{andCase, and-is, xorCase, xor-is, made}
 use Rattle.fold_laws.specs.Table.{Entry, at, repOf, kindOf, ordered, part}
 use Rattle.fold_laws.specs.Entries.{rep-signed, plain-part}
 use Rattle.fold_laws.specs.Facts.{Laws, Keyed, Stands, GateFact}
-use Rattle.sets.specs.Sets.{Same, flat, sets}
+use Rattle.emit_laws.specs.Sets.{Same, flat, sets}
 use Rattle.emit_laws.specs.Replay.{Has}
 use Rattle.emit_laws.specs.Trees.{Tree, derives-same, Met, All₂}
 use Rattle.emit_laws.specs.Trees.Tree.{old}

@@ -1,4 +1,5 @@
 -- The engine's second pass, from the table of the first: what it emits, and that a checker accepts it. Each file uses those above it.
+pub mod Sets
 pub mod Replay
 pub mod Trees
 pub mod Subst

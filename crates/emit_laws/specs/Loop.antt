@@ -12,7 +12,7 @@ use Rattle.model.specs.Limits.{linesPerGate}
 use Rattle.model.specs.Nets.{Op, Gate, netOf, odd, xorb, readsBelow}
 use Rattle.model.specs.Nets.Op.{and, xor}
 use Rattle.model.specs.Clauses.{Clause, neg, opClauses, allClauses}
-use Rattle.sets.specs.Bools.{below-or-at}
+use Rattle.laws.specs.Bools.{below-or-at}
 use Rattle.laws.specs.Growing.{Extends}
 use Rattle.laws.specs.Literals.{literals-below}
 use Rattle.laws.specs.Pairs.{Ordered, isXor, Plain}

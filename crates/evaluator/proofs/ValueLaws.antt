@@ -14,7 +14,7 @@ use lib.Dec.{eqb}
 use Rattle.model.specs.Nets as model
 use Rattle.model.specs.Nets.{Gate, Netlist, netOf, odd, xorb, bit, bits, word, literal, gate, grow, run, start, nets, eval, size, apply, isBelow, readsBelow}
 use Rattle.model.specs.Frames.{xorKind}
-use Rattle.sets.specs.Bools.{both}
+use Rattle.laws.specs.Bools.{both}
 use Rattle.laws.specs.ListText.{Stands, ordered-at, below-at}
 use Rattle.frame.specs.declared.Op.{Op}
 use Rattle.frame.specs.declared.Op.the-variants.{And, Xor}

@@ -8,7 +8,7 @@ use lib.Dec.{eqb}
 use borrow.Author.Tests.{eqb-true, eqb-false}
 use Rattle.model.specs.Nets.{netOf, odd, bit}
 use Rattle.model.specs.Clauses.{neg}
-use Rattle.sets.specs.Bools.{neither, by-cond}
+use Rattle.laws.specs.Bools.{neither, by-cond}
 use Rattle.fold_laws.specs.Signs.{bit-odd}
 
 -- a literal, or the key of a core to be found

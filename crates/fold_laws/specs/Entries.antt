@@ -11,7 +11,7 @@ use lib.Dec.{eqb, ltb}
 use borrow.Author.Tests.{eqb-true, eq-eqb, ltb-true, ltb-false}
 use Rattle.model.specs.Nets.{Gate, netOf, odd, xorb}
 use Rattle.model.specs.Clauses.{positive}
-use Rattle.sets.specs.Bools.{both, by-cond, below-or-at, xorb-self}
+use Rattle.laws.specs.Bools.{both, by-cond, below-or-at, xorb-self}
 use Rattle.laws.specs.Literals.{positive-even}
 use Rattle.laws.specs.Growing.{grow-front, length-grow}
 use Rattle.fold_laws.specs.Signs.{signed, signed-net, odd-signed, signed-signed, signed-back, same-net, signed-positive}

@@ -11,7 +11,7 @@ use lib.Dec.{ltb, leb}
 use borrow.Author.Tests.{ltb-true, ltb-false, leb-true, leb-false}
 use Rattle.model.specs.Nets.{Gate, netOf, odd}
 use Rattle.model.specs.Clauses.{positive, neg}
-use Rattle.sets.specs.Bools.{by-cond, below-or-at}
+use Rattle.laws.specs.Bools.{by-cond, below-or-at}
 use Rattle.laws.specs.Literals.{literals-below}
 use Rattle.laws.specs.Growing.{Grown, grown}
 use Rattle.laws.specs.Pairs.{Ordered, isXor}

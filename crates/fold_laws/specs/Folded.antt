@@ -14,7 +14,7 @@ use Rattle.model.specs.Nets.Op.{and, xor}
 use Rattle.model.specs.Clauses.{positive}
 use Rattle.model.specs.Forms.{Form, form, never, alike, same, sameForm, foldOp, literalForm, gateForm, leaves}
 use Rattle.model.specs.Forms.Core.{leaf}
-use Rattle.sets.specs.Bools.{xorb-false}
+use Rattle.laws.specs.Bools.{xorb-false}
 use Rattle.laws.specs.Literals.{literals-below}
 use Rattle.laws.specs.Growing.{Grown, grown, grow-front}
 use Rattle.laws.specs.Pairs.{Ordered, isXor, Plain}

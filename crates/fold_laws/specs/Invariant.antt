@@ -13,7 +13,7 @@ use Rattle.model.specs.Nets.{netOf, xorb, odd}
 use Rattle.model.specs.Clauses.{positive, neg}
 use Rattle.model.specs.Forms.{Core, Form, flip, never, alike, same, sameForm, literalForm}
 use Rattle.model.specs.Forms.Core.{leaf}
-use Rattle.sets.specs.Bools.{both, either, eqb-sym, below-or-at}
+use Rattle.laws.specs.Bools.{both, either, eqb-sym, below-or-at}
 use Rattle.fold_laws.specs.Signs.{signed, signed-net, odd-signed, even-not-neg, same-net}
 use Rattle.fold_laws.specs.Same.{alike-true, _≈_, same-left, same-form-sym, newForm, sameBy, new-same}
 use Rattle.fold_laws.specs.Same.{_~_, ~core, ~refl, ~left, ~right, ~trans, ~path, ~flip, flip-flip}

@@ -6,7 +6,7 @@ use borrow.Author.Tests.{eqb-true, eq-eqb, not-true}
 use Rattle.model.specs.Nets.{xorb}
 use Rattle.model.specs.Forms.{Core, Form, form, flip, falseCore, never, always, andCore, xorCore, alike, same, sameForm, foldAnd, xorCores, foldXor}
 use Rattle.model.specs.Forms.Core.{leaf, node}
-use Rattle.sets.specs.Bools.{both, either, xorb-equal, xorb-self, xorb-comm, xorb-assoc, eqb-sym}
+use Rattle.laws.specs.Bools.{both, either, xorb-equal, xorb-self, xorb-comm, xorb-assoc, eqb-sym}
 
 -- ---- signs
 

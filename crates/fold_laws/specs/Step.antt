@@ -10,7 +10,7 @@ use borrow.Author.Tests.{eqb-true, eq-eqb, ne-eqb, leb-true, leb-false}
 use Rattle.model.specs.Nets.{netOf, odd, xorb}
 use Rattle.model.specs.Clauses.{positive, neg}
 use Rattle.model.specs.Forms.{Form, form, flip, falseCore, never, always, foldAnd, foldXor, xorCores, literalForm}
-use Rattle.sets.specs.Bools.{by-cond, either, xorb-self, below-or-at}
+use Rattle.laws.specs.Bools.{by-cond, either, xorb-self, below-or-at}
 use Rattle.laws.specs.Literals.{positive-even}
 use Rattle.fold_laws.specs.Signs.{signed, signed-net}
 use Rattle.fold_laws.specs.Same.{_~_, ~sym, ~trans, ~path, ~flip, fold, newForm, sameBy, fold~, fold-swap, xor-flip}

@@ -14,7 +14,7 @@ use Rattle.model.specs.Answers.{filled}
 use Rattle.model.specs.Answers.Answer.{ok}
 use Rattle.model.specs.Frames as model
 use Rattle.laws.specs.Answers.{ok-injective, refused-not-ok, guard-ok}
-use Rattle.sets.specs.Bools.{both}
+use Rattle.laws.specs.Bools.{both}
 use Rattle.laws.specs.RoundTrip.{Proper, buffer-read, buffer-written}
 use Rattle.frame.specs.declared.Op.the-variants.{And, Xor}
 use Rattle.frame.specs.declared.Frame.{Frame}

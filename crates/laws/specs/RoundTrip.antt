@@ -18,7 +18,7 @@ use Rattle.model.specs.Answers.Answer.{ok}
 use Rattle.model.specs.Lines.{Line, lineFeed, digitOf, lines}
 use Rattle.model.specs.Lines.Line.{digits, faulty}
 use Rattle.model.specs.Frames.{Frame, headerKind, andKind, xorKind, outputKind, resolveKind, extendAndKind, extendXorKind, reportKind, oneByte, widths, isKind, number, total, split, decodeAs, decode, frameAt, endAt, loneOf, loneLine, hexFields, lineOf, statedLine, writeFrame, writtenFrame}
-use Rattle.sets.specs.Bools.{both, by-cond}
+use Rattle.laws.specs.Bools.{both, by-cond}
 use Rattle.laws.specs.Answers.{ok-injective, refused-not-ok, guard-ok, bind-ok}
 use Rattle.laws.specs.Lines.{prepend-some}
 use Rattle.laws.specs.Digits.{AllDigits, line-of-bytes, bytes-of-line, digitsOf, hex-digits, all-append, all-digitsOf, length-digitsOf, number-digitsOf, digits-number}

@@ -9,7 +9,7 @@ use lib.Dec.{ltb, eqb}
 use lib.Seq.{sets, sets-eq, length-sets, take-at, take-suc, length-take-le, drop-append-add}
 use Rattle.model.specs.Limits.{clauseWidth}
 use Rattle.model.specs.Clauses.{Clause, neg, insert, join, clauseOf, andClauses, xorClauses}
-use Rattle.sets.specs.Bools.{by-cond}
+use Rattle.laws.specs.Bools.{by-cond}
 use Rattle.model.specs.Checker.{stored, storedAll}
 use Rattle.clause.specs.Sets.{Rising, clauseIn, clauseAt}
 use Rattle.saved.specs.Copies.{Saved}

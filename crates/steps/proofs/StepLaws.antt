@@ -16,7 +16,7 @@ use Rattle.model.specs.Clauses.{Clause, isEmpty, positive, resolvent, andClause
 use Rattle.model.specs.Steps.{State, clause, isClause, canResolve, added, resolved, step}
 use Rattle.model.specs.Steps.Step.{resolve}
 use Rattle.model.specs.Checker.{stored}
-use Rattle.sets.specs.Bools.{both}
+use Rattle.laws.specs.Bools.{both}
 use Rattle.clause.specs.declared.resolution.Resolved.{Resolved}
 use Rattle.laws.specs.Answers.{ok-injective, guard-ok}
 use Rattle.clause.specs.declared.resolution.Outcome.{Outcome}

@@ -9,7 +9,7 @@ use lib.ListN.{length, getD, set, length-set, length-append, List·getD-append}
 use lib.Seq.{sets, getD-set-same, getD-set-other, getD-at}
 use lib.Dec.{eqb}
 use borrow.Author.Tests.{eqb-true, eqb-false, eq-eqb, ne-eqb}
-use Rattle.sets.specs.Bools.{both, by-cond, below-or-at}
+use Rattle.laws.specs.Bools.{both, by-cond, below-or-at}
 use Rattle.fold_laws.specs.Table as model
 use Rattle.table.specs.Rows.{rowWidth, row, Holds}
 use Rattle.table.specs.Buckets.{bucketWidth, headAt, nextAt, mixed, bucketOf, bucketAt, latest, Indexed, Among}

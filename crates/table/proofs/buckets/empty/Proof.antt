@@ -4,7 +4,7 @@ use mathlib.Core.Path.{_≡_, refl, _∙_}
 use native.Mathlib.Omega.{arith}
 use lib.ListN.{length, getD, length-set}
 use lib.Seq.{getD-set-same, getD-set-other}
-use Rattle.sets.specs.Bools.{below-or-at}
+use Rattle.laws.specs.Bools.{below-or-at}
 use Rattle.table.specs.Buckets.{bucketWidth, headAt}
 use Rattle.table.proofs.BucketLaws.{index-none}
 use borrow.Author.Needs.{needs}
