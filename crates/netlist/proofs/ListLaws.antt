@@ -109,12 +109,8 @@ module _ (text : List ℕ) (left : Counts) (c : Cursor) (k : Counts) (body : Cur
     right-refused r e n i o = list-refused text c k body h (likeLeft n) (alike n i o) r e
 
     pub right-read : (next : Cursor) → BodyRead text body k next → RightRead text left c k next
-    right-read next e = record {
-      outputs = outputs;
-      list = e .list;
-      listed = e .listed;
-      reads = λ n i o. list-read text c k body h (likeLeft n) (alike n i o) next e;
-    }
+    right-read next e =
+        record { list = e .list; listed = e .listed; reads = λ n i o. list-read text c k body h (likeLeft n) (alike n i o) next e }
 
 -- ---- both lists
 

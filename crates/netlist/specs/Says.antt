@@ -155,7 +155,6 @@ PartSays text c (part-case.Refused r) = readList anyHeader (from text c) (c .lin
 
 -- The right list behind a left one with these counts, whatever the left list is otherwise.
 pub record RightRead (text : List ℕ) (left : Counts) (c : Cursor) (k : Counts) (next : Cursor) : Type 0 where
-  pub outputs : k .outputs ≡ left .outputs
   pub list : ListRead
   pub listed : Listed k text next list
   pub reads : (n : Netlist) → n .inputs ≡ left .inputs → length (n .outs) ≡ left .outputs → readList (likeLeft n) (from text c) (c .line) ≡ ok list

@@ -32,13 +32,13 @@ pub struct Counts {
 }
 
 // A header, or a whole list, and the cursor behind it.
-pub enum Part {
+enum Part {
     Counted(Counts, Cursor),
     Refused(Refusal),
 }
 
 // The cursor behind what was read.
-pub enum Behind {
+enum Behind {
     At(Cursor),
     Refused(Refusal),
 }
