@@ -121,6 +121,9 @@ record ListTexts : Type 0 where
   resolve-in-proof : behindLists "11000400010000\n" ≡ (10, 5)
   extend-and-in-proof : behindLists "1200020002\n" ≡ (15, 0)
   extend-xor-in-proof : behindLists "1300020002\n" ≡ (15, 0)
+  -- the next extension has a variable of its own, and may read the one before, which is 3
+  extension-read : behindLists "1200020002\n1300060002\n" ≡ (15, 0)
+  extension-not-yet : behindLists "1200020002\n1300080002\n" ≡ (12, 6)
   no-proof-line : behindLists "" ≡ (15, 0)
 
 list-samples : ListTexts
@@ -145,6 +148,8 @@ list-samples = record {
   resolve-in-proof = refl;
   extend-and-in-proof = refl;
   extend-xor-in-proof = refl;
+  extension-read = refl;
+  extension-not-yet = refl;
   no-proof-line = refl;
 }
 
