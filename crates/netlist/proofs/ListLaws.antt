@@ -1,7 +1,7 @@
 -- Lists from their parts: gates and outputs behind a header, a list behind another, and nothing behind. Each law puts what two readers say
 -- together to what the definition reads.
 use Prim.Native.Nat.{ℕ, _+_, _≤_}
-use mathlib.Core.Path.{_≡_, refl, sym, ap, _∙_}
+use mathlib.Core.Path.{_≡_, refl, ap, _∙_}
 use mathlib.Core.Bool.{Bool, true, false, and-false}
 use mathlib.Core.List.{List}
 use native.Mathlib.Omega.{arith}

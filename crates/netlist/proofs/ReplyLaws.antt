@@ -7,7 +7,7 @@ use native.Mathlib.Omega.{arith}
 use lib.ListN.{length, drop, length-append}
 use lib.Seq.{drop-drop}
 use Rattle.model.specs.Limits.{mostInputs, mostGates, mostOutputs}
-use Rattle.model.specs.Answers.{Answer}
+use Rattle.model.specs.Answers.{Answer, bind}
 use Rattle.model.specs.Answers.Answer.{ok, refused}
 use Rattle.model.specs.Nets.{Netlist}
 use Rattle.model.specs.Lines.{lines}
@@ -21,7 +21,22 @@ use Rattle.frame.specs.Frames.{Inside}
 use Rattle.netlist.specs.declared.Counts.{Counts}
 use Rattle.netlist.specs.declared.Pair.{Pair}
 use Rattle.netlist.specs.Says.{from}
-use Rattle.netlist.specs.Replies.{countsOf, bytesOf, pair, pairOf, bothOf}
+use Rattle.netlist.specs.Replies.{counts, countsOf, bytesOf, pair, pairOf, bothOf}
+
+-- ---- replies that are made of an answer
+
+module _ {A B : Type 0} (f : A → B) where
+  -- where the reply is a refusal, the answer is this refusal
+  made-refused : (a : Answer A) {number line : ℕ} → refused number line ≡ bind a (λ x. ok (f x)) → a ≡ refused number line
+  made-refused (ok x) e = absurd (refused-not-ok e)
+  made-refused (refused m l) e = cc
+
+  -- else it is made of the answer's result
+  made-ok : (a : Answer A) {b : B} → ok b ≡ bind a (λ x. ok (f x)) → (x : A) × (a ≡ ok x) × (f x ≡ b)
+  made-ok (ok x) e = (x, refl, ok-injective (sym e))
+  made-ok (refused m l) e = absurd (refused-not-ok (sym e))
+
+-- ---- one list
 
 pub record OneList (text : List ℕ) (k : Counts) : Type 0 where
   pub list : Netlist
@@ -35,34 +50,28 @@ pub record OneList (text : List ℕ) (k : Counts) : Type 0 where
   pub most-outputs : k .outputs ≤ mostOutputs
 
 pub one-list : (text : List ℕ) (k : Counts) → ok k ≡ countsOf (readOne text) → OneList text k
-one-list text k e = go (readOne text) refl e
-  where
-    go : (a : Answer Netlist) → readOne text ≡ a → ok k ≡ countsOf a → OneList text k
-    go (ok n) r e =
-        let g = one-good text n r in
-        let i = ap (λ (c : Counts). c .inputs) (ok-injective e) in
-        let j = ap (λ (c : Counts). c .gates) (ok-injective e) in
-        let o = ap (λ (c : Counts). c .outputs) (ok-injective e) in
-        record {
-          list = n;
-          read = r;
-          stands = one-stands text n r .0;
-          inputs = sym i;
-          gates = sym j;
-          outputs = sym o;
-          most-inputs = rw i (g .inputs);
-          most-gates = rw j (g .gates);
-          most-outputs = rw o (g .outs);
-        }
-    go (refused number line) r e = absurd (refused-not-ok (sym e))
+one-list text k e =
+    let r = made-ok counts (readOne text) e in
+    let n : Netlist = r .0 in
+    let g = one-good text n (r .1) in
+    let i : n .inputs ≡ k .inputs = ap (λ (c : Counts). c .inputs) (r .2) in
+    let j : length (n .gates) ≡ k .gates = ap (λ (c : Counts). c .gates) (r .2) in
+    let o : length (n .outs) ≡ k .outputs = ap (λ (c : Counts). c .outputs) (r .2) in
+    record {
+      list = n;
+      read = r .1;
+      stands = one-stands text n (r .1) .0;
+      inputs = i;
+      gates = j;
+      outputs = o;
+      most-inputs = rw (← i) (g .inputs);
+      most-gates = rw (← j) (g .gates);
+      most-outputs = rw (← o) (g .outs);
+    }
 
 -- a refusal of the text
 pub one-none : (text : List ℕ) (number line : ℕ) → refused number line ≡ countsOf (readOne text) → readOne text ≡ refused number line
-one-none text number line e = go (readOne text) refl e
-  where
-    go : (a : Answer Netlist) → readOne text ≡ a → refused number line ≡ countsOf a → readOne text ≡ refused number line
-    go (ok n) r e = absurd (refused-not-ok e)
-    go (refused m l) r e = cc
+one-none text number line e = made-refused counts (readOne text) e
 
 -- ---- two lists
 
@@ -108,19 +117,14 @@ both-stand text r e =
       line = omega (arith, s .after, ab .outs);
     }
 
+abbrev pairRead : ListsRead → Pair
+pairRead r = pair (r .lists)
+
 pub both-lists : (text : List ℕ) (p : Pair) → ok p ≡ bothOf (readBoth text) → BothLists text p
-both-lists text p e = go (readBoth text) refl e
-  where
-    go : (a : Answer ListsRead) → readBoth text ≡ a → ok p ≡ bothOf a → BothLists text p
-    go (ok r) is e = subst (BothLists text) (sym (ok-injective e)) (both-stand text r is)
-    go (refused number line) is e = absurd (refused-not-ok (sym e))
+both-lists text p e = let r = made-ok pairRead (readBoth text) e in subst (BothLists text) (r .2) (both-stand text (r .0) (r .1))
 
 pub both-none : (text : List ℕ) (number line : ℕ) → refused number line ≡ bothOf (readBoth text) → readBoth text ≡ refused number line
-both-none text number line e = go (readBoth text) refl e
-  where
-    go : (a : Answer ListsRead) → readBoth text ≡ a → refused number line ≡ bothOf a → readBoth text ≡ refused number line
-    go (ok r) is e = absurd (refused-not-ok e)
-    go (refused m l) is e = cc
+both-none text number line e = made-refused pairRead (readBoth text) e
 
 -- and nothing behind them
 pub record TwoLists (text : List ℕ) (p : Pair) : Type 0 where
@@ -136,15 +140,7 @@ two-stand text l is =
     subst (λ (m : Lists). TwoLists text (pair m)) same (record { both = both-stand text (r .0) (r .1); alone = is ∙ ap ok (sym same) })
 
 pub two-lists : (text : List ℕ) (p : Pair) → ok p ≡ pairOf (readLists text) → TwoLists text p
-two-lists text p e = go (readLists text) refl e
-  where
-    go : (a : Answer Lists) → readLists text ≡ a → ok p ≡ pairOf a → TwoLists text p
-    go (ok l) is e = subst (TwoLists text) (sym (ok-injective e)) (two-stand text l is)
-    go (refused number line) is e = absurd (refused-not-ok (sym e))
+two-lists text p e = let r = made-ok pair (readLists text) e in subst (TwoLists text) (r .2) (two-stand text (r .0) (r .1))
 
 pub two-none : (text : List ℕ) (number line : ℕ) → refused number line ≡ pairOf (readLists text) → readLists text ≡ refused number line
-two-none text number line e = go (readLists text) refl e
-  where
-    go : (a : Answer Lists) → readLists text ≡ a → refused number line ≡ pairOf a → readLists text ≡ refused number line
-    go (ok l) is e = absurd (refused-not-ok e)
-    go (refused m l) is e = cc
+two-none text number line e = made-refused pair (readLists text) e

@@ -26,8 +26,11 @@ abbrev pub countsReply : one.One → Answer Counts
 countsReply (one-case.Counted k) = ok k
 countsReply (one-case.Refused r) = answerOf r
 
+abbrev pub counts : Netlist → Counts
+counts n = record { inputs = n .inputs; gates = length (n .gates); outputs = length (n .outs) }
+
 abbrev pub countsOf : Answer Netlist → Answer Counts
-countsOf a = bind a λ n. ok (record { inputs = n .inputs; gates = length (n .gates); outputs = length (n .outs) })
+countsOf a = bind a λ n. ok (counts n)
 
 -- ---- two lists
 

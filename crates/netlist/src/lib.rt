@@ -159,7 +159,7 @@ fn list_bytes(gates: usize, outputs: usize) -> usize
     HEADER_BYTES + GATE_BYTES * gates + OUTPUT_BYTES * outputs
 }
 
-// Two lists by their counts, which give the places too.
+// Two lists by their counts, which give the places too: from line 1 on, each header, gate and output has a line.
 fn pair_of(left: Counts, right: usize) -> Pair
     requires { ⌜ (left .gates ≤ mostGates) × (left .outputs ≤ mostOutputs) × (right ≤ mostGates) ⌝ }
     ensures { λ r. ⌜ r ≡ pairBy (left .inputs) (left .gates) right (left .outputs) ⌝ }
