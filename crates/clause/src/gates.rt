@@ -1,6 +1,6 @@
 // The clauses that define an AND gate and an XOR gate (document 01, 'The miter's clauses'), one at a time.
 use crate::Clause;
-use crate::Literal;
+use literal::Literal;
 ghost use mathlib.Core.List.{[]};
 ghost use Prim.Native.Nat.{_<_};
 ghost use lib.ListN.{getD};

@@ -1,61 +1,18 @@
-// Literals and clauses by value (document 01, 'The miter's clauses' and 'Steps'). Clauses are sets of literals: the literals of a clause rise,
-// and equal ones stand once.
+// Clauses by value (document 01, 'The miter's clauses' and 'Steps'). Clauses are sets of literals: the literals of a clause rise, and equal ones
+// stand once.
 pub mod gates; // the clauses that define an AND gate and an XOR gate
 pub mod resolution; // one resolution step on two clauses of the store
 pub mod store; // clauses put into the store
 
-ghost use mathlib.Core.Path.{_≡_};
+use literal::Literal;
 ghost use mathlib.Core.List.{[], _∷_};
-ghost use Prim.Native.Nat.{_≤_};
-ghost use Rattle.model.specs.Limits.{highestVariable};
-ghost use Rattle.model.specs.Nets.{netOf};
-ghost use Rattle.model.specs.Clauses as model;
 ghost use Rattle.model.specs.Clauses.{clauseOf};
 ghost use Rattle.clause.specs.Sets.{Holds};
-
-// The variable v is 2 × v, its complement 2 × v + 1.
-pub struct Literal {
-    pub code: u16,
-}
 
 // The literals in use are the first `len`.
 pub struct Clause {
     pub literals: [u16; Clause::WIDTH],
     pub len: usize,
-}
-
-impl Literal {
-    pub const HIGHEST_VARIABLE: u16 = 16383;
-
-    pub fn positive(v: u16) -> Literal
-        requires { ⌜ v ≤ highestVariable ⌝ }
-        ensures { λ r. ⌜ r .code ≡ model.positive v ⌝ }
-    {
-        Literal { code: 2 * v }
-    }
-
-    pub fn negative(v: u16) -> Literal
-        requires { ⌜ v ≤ highestVariable ⌝ }
-        ensures { λ r. ⌜ r .code ≡ model.negative v ⌝ }
-    {
-        Literal { code: 2 * v + 1 }
-    }
-
-    pub fn complement(self) -> Literal
-        ensures { λ r. ⌜ r .code ≡ model.neg (self .code) ⌝ }
-    {
-        let code = self.code;
-        if code % 2 == 0 {
-            return Literal { code: code + 1 };
-        }
-        Literal { code: code - 1 }
-    }
-
-    pub fn variable(self) -> u16
-        ensures { λ r. ⌜ r ≡ netOf (self .code) ⌝ }
-    {
-        self.code / 2
-    }
 }
 
 impl Clause {

@@ -9,7 +9,7 @@ use crate::lines::cut;
 use crate::lines::given;
 use crate::subst::link2;
 use crate::subst::subst2;
-use clause::Literal;
+use literal::Literal;
 use table::links::number_at;
 use table::rows::representative;
 ghost use Prim.Native.Nat.{ℕ, _<_, _≤_};

@@ -1,7 +1,7 @@
 // A gate and the numbers of its clauses, in normal form: an XOR's operands are complemented so that their representatives have no sign, and
 // the operands are put in the order of their representatives.
-use clause::Literal;
 use derive::gates::Defined;
+use literal::Literal;
 use table::rows::representative;
 ghost use mathlib.Core.Path.{_≡_};
 ghost use mathlib.Core.Bool.{false, true};

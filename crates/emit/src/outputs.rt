@@ -1,8 +1,8 @@
 // The outputs: each z is false, then each w, down to the empty clause.
-use clause::Literal;
 use derive::lines::Derived;
 use derive::lines::cut;
 use derive::subst::subst2;
+use literal::Literal;
 use miter::both::outputs_of;
 use netlist::Pair;
 use table::rows::representative;

@@ -2,8 +2,8 @@
 use crate::made::Made;
 use crate::made::and_of;
 use crate::made::xor_of;
-use clause::Literal;
 use frame::Op;
+use literal::Literal;
 use netlist::again::Gate;
 use table::buckets::find;
 use table::rows::AND;

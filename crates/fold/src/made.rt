@@ -1,5 +1,5 @@
 // What two representatives make: a literal, or the key of a core to be found.
-use clause::Literal;
+use literal::Literal;
 ghost use mathlib.Core.Path.{_≡_};
 ghost use mathlib.Core.Bool.{false, true, cond};
 ghost use lib.Dec.{leb};

@@ -17,7 +17,7 @@ use Rattle.laws.specs.Pairs as pairs
 use Rattle.laws.specs.MiterOrder.{length-z}
 use Rattle.frame.specs.declared.Op.{Op}
 use Rattle.frame.specs.declared.Op.the-variants.{And, Xor}
-use Rattle.clause.specs.declared.Literal.{Literal}
+use Rattle.literal.specs.declared.Literal.{Literal}
 use Rattle.netlist.specs.declared.Pair.{Pair}
 use Rattle.netlist.specs.declared.again.Gate as again
 use Rattle.netlist.specs.Again.{opOf, gateMeant, noGate}

@@ -1,8 +1,8 @@
 // The miter's clauses written to the store, before the first step: 'not variable 0', those of every variable, and the last w.
 use crate::variables::variable;
 use clause::Clause;
-use clause::Literal;
 use clause::store::save;
+use literal::Literal;
 use netlist::Pair;
 use netlist::Refusal;
 use steps::Progress;

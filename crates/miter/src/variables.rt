@@ -1,7 +1,7 @@
 // The miter's variables (document 01, 'The miter's clauses'): left gates, right gates, one z for each output, one w for each output from the
 // second on. Each is the AND or XOR of two literals, or for a w the OR, which is an AND of complements.
-use clause::Literal;
 use frame::Op;
+use literal::Literal;
 use netlist::Pair;
 use netlist::again::gate_at;
 use netlist::again::output_at;

@@ -2,10 +2,10 @@
 // copies are merged. No branch asks where a pivot stands or which of two literals is lower, since such branches are mispredicted. A step that is
 // refused ends the proof, and is left to `resolve`.
 use clause::Clause;
-use clause::Literal;
 use clause::resolution::Outcome;
 use clause::resolution::Resolved;
 use clause::resolution::resolve;
+use literal::Literal;
 ghost use mathlib.Core.Path.{_≡_};
 ghost use mathlib.Core.Bool.{true, false};
 ghost use Prim.Native.Nat.{_+_, _*_, _<_, _≤_};

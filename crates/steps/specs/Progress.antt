@@ -13,7 +13,7 @@ use Rattle.model.specs.Checker.{storedAll}
 use Rattle.netlist.specs.Again.{opOf}
 use Rattle.frame.specs.declared.Op.{Op}
 use Rattle.frame.specs.declared.Op.the-variants.{And, Xor}
-use Rattle.clause.specs.declared.Literal.{Literal}
+use Rattle.literal.specs.declared.Literal.{Literal}
 use Rattle.clause.specs.Sets.{Rising}
 use Rattle.steps.specs.declared.Progress.{Progress}
 use Rattle.steps.specs.declared.Stepped.{Stepped}

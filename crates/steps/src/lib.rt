@@ -1,7 +1,6 @@
 // One step of a proof (document 01, 'Steps') over the clause store, and the clauses of a gate put into it. The store holds the clauses from its
 // start, eight numbers each; the rest of it is of no account here. No work on a step depends on the size of the store.
 use clause::Clause;
-use clause::Literal;
 use clause::gates::AND_CLAUSES;
 use clause::gates::XOR_CLAUSES;
 use clause::gates::and_clause;
@@ -9,6 +8,7 @@ use clause::gates::xor_clause;
 use clause::resolution::Outcome;
 use clause::store::save;
 use frame::Op;
+use literal::Literal;
 use netlist::Refusal;
 use saved::resolve_saved;
 ghost use mathlib.Core.Path.{_≡_};

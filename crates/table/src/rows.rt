@@ -1,6 +1,6 @@
 // The first pass's table, a row for each net: representative, kind, key, core, then the number by which `buckets` chains nets, and two that are
 // free.
-use clause::Literal;
+use literal::Literal;
 ghost use mathlib.Core.Path.{_≡_};
 ghost use mathlib.Core.Bool.{Bool};
 ghost use mathlib.Core.List.{List};

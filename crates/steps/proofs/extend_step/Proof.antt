@@ -12,7 +12,7 @@ use Rattle.steps.proofs.extend_step.Reads as reads
 use Rattle.steps.proofs.extend_step.Lts as lts
 use Rattle.steps.proofs.clause_count.Reads as clause-count-reads
 use Rattle.steps.proofs.push_gate.Reads as push-gate-reads
-use Rattle.clause.proofs.Literal.positive.Reads as positive-reads
+use Rattle.literal.proofs.Literal.positive.Reads as positive-reads
 
 returns : tie.Need-returns
 returns c s t = first-unused (c .before .before .args .room) (c .before .before .args .line) s (c .before .before .args .op) (c .before .before .args .x) (c .before .before .args .y) (omega (arith, t .next))

@@ -11,7 +11,7 @@ use Rattle.derive.proofs.ands.and_gate.Statement.{statement}
 use Rattle.derive.proofs.ands.and_gate.Tie as tie
 use Rattle.derive.proofs.ands.and_gate.Reads as reads
 use Rattle.derive.proofs.ands.and_gate.Lts as lts
-use Rattle.clause.proofs.Literal.complement.Reads as complement-reads
+use Rattle.literal.proofs.Literal.complement.Reads as complement-reads
 use Rattle.derive.proofs.ands.and_nil.Reads as and-nil-reads
 use Rattle.derive.proofs.ands.and_opp.Reads as and-opp-reads
 use Rattle.derive.proofs.ands.and_pair.Reads as and-pair-reads

@@ -6,7 +6,7 @@ use Rattle.derive.proofs.ands.and_own.Statement.{statement}
 use Rattle.derive.proofs.ands.and_own.Tie as tie
 use Rattle.derive.proofs.ands.and_own.Reads as reads
 use Rattle.derive.proofs.ands.and_own.Lts as lts
-use Rattle.clause.proofs.Literal.complement.Reads as complement-reads
+use Rattle.literal.proofs.Literal.complement.Reads as complement-reads
 use Rattle.derive.proofs.kept.three.Reads as three-reads
 use Rattle.derive.proofs.subst.subst2.Reads as subst2-reads
 

@@ -7,7 +7,7 @@ use Rattle.derive.proofs.xors.xor_down.Statement.{statement}
 use Rattle.derive.proofs.xors.xor_down.Tie as tie
 use Rattle.derive.proofs.xors.xor_down.Reads as reads
 use Rattle.derive.proofs.xors.xor_down.Lts as lts
-use Rattle.clause.proofs.Literal.complement.Reads as complement-reads
+use Rattle.literal.proofs.Literal.complement.Reads as complement-reads
 use Rattle.derive.proofs.lines.cut.Reads as cut-reads
 use Rattle.derive.proofs.subst.subst2.Reads as subst2-reads
 use Rattle.table.proofs.links.number_at.Reads as number-at-reads

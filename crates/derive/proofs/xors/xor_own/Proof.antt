@@ -7,7 +7,7 @@ use Rattle.derive.proofs.xors.xor_own.Statement.{statement}
 use Rattle.derive.proofs.xors.xor_own.Tie as tie
 use Rattle.derive.proofs.xors.xor_own.Reads as reads
 use Rattle.derive.proofs.xors.xor_own.Lts as lts
-use Rattle.clause.proofs.Literal.complement.Reads as complement-reads
+use Rattle.literal.proofs.Literal.complement.Reads as complement-reads
 use Rattle.derive.proofs.kept.four.Reads as four-reads
 use Rattle.derive.proofs.subst.subst2.Reads as subst2-reads
 

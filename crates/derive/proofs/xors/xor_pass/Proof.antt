@@ -7,7 +7,7 @@ use Rattle.derive.proofs.xors.xor_pass.Statement.{statement}
 use Rattle.derive.proofs.xors.xor_pass.Tie as tie
 use Rattle.derive.proofs.xors.xor_pass.Reads as reads
 use Rattle.derive.proofs.xors.xor_pass.Lts as lts
-use Rattle.clause.proofs.Literal.complement.Reads as complement-reads
+use Rattle.literal.proofs.Literal.complement.Reads as complement-reads
 use Rattle.derive.proofs.kept.two.Reads as two-reads
 use Rattle.derive.proofs.subst.link2.Reads as link2-reads
 

@@ -7,7 +7,7 @@ use Rattle.derive.proofs.xors.xor_same.Statement.{statement}
 use Rattle.derive.proofs.xors.xor_same.Tie as tie
 use Rattle.derive.proofs.xors.xor_same.Reads as reads
 use Rattle.derive.proofs.xors.xor_same.Lts as lts
-use Rattle.clause.proofs.Literal.complement.Reads as complement-reads
+use Rattle.literal.proofs.Literal.complement.Reads as complement-reads
 use Rattle.derive.proofs.kept.two.Reads as two-reads
 use Rattle.derive.proofs.lines.cut.Reads as cut-reads
 use Rattle.derive.proofs.lines.given.Reads as given-reads

@@ -10,7 +10,7 @@ use Rattle.emit.proofs.outputs.out.Statement.{statement}
 use Rattle.emit.proofs.outputs.out.Tie as tie
 use Rattle.emit.proofs.outputs.out.Reads as reads
 use Rattle.emit.proofs.outputs.out.Lts as lts
-use Rattle.clause.proofs.Literal.complement.Reads as complement-reads
+use Rattle.literal.proofs.Literal.complement.Reads as complement-reads
 use Rattle.derive.proofs.lines.cut.Reads as cut-reads
 use Rattle.derive.proofs.subst.subst2.Reads as subst2-reads
 use Rattle.table.proofs.rows.representative.Reads as representative-reads

@@ -6,7 +6,7 @@ use Rattle.fold.proofs.made.and_made.Statement.{statement}
 use Rattle.fold.proofs.made.and_made.Tie as tie
 use Rattle.fold.proofs.made.and_made.Reads as reads
 use Rattle.fold.proofs.made.and_made.Lts as lts
-use Rattle.clause.proofs.Literal.complement.Reads as complement-reads
+use Rattle.literal.proofs.Literal.complement.Reads as complement-reads
 
 returns : tie.Need-returns
 returns c = and-nil _ _ (c .if1 .taken)

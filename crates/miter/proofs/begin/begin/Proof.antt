@@ -14,7 +14,7 @@ use Rattle.miter.proofs.begin.begin.Lts as lts
 use Rattle.miter.proofs.begin.close.Reads as close-reads
 use Rattle.miter.proofs.begin.put_unit.Reads as put-unit-reads
 use Rattle.miter.proofs.begin.write_variables.Reads as write-variables-reads
-use Rattle.clause.proofs.Literal.negative.Reads as negative-reads
+use Rattle.literal.proofs.Literal.negative.Reads as negative-reads
 
 returns : tie.Need-returns
 returns c w = no-space w (c .before .before .before .args .room) (omega arith)

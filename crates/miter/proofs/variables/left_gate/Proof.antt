@@ -13,7 +13,7 @@ use Rattle.miter.proofs.variables.left_gate.Statement.{statement}
 use Rattle.miter.proofs.variables.left_gate.Tie as tie
 use Rattle.miter.proofs.variables.left_gate.Reads as reads
 use Rattle.miter.proofs.variables.left_gate.Lts as lts
-use Rattle.clause.proofs.Literal.positive.Reads as positive-reads
+use Rattle.literal.proofs.Literal.positive.Reads as positive-reads
 use Rattle.netlist.proofs.again.gate_at.Reads as gate-at-reads
 
 gate-at-requires : tie.Need-gate-at-requires

@@ -16,7 +16,7 @@ use Rattle.miter.proofs.variables.right_gate.Tie as tie
 use Rattle.miter.proofs.variables.right_gate.Reads as reads
 use Rattle.miter.proofs.variables.right_gate.Lts as lts
 use Rattle.miter.proofs.variables.shift.Reads as shift-reads
-use Rattle.clause.proofs.Literal.positive.Reads as positive-reads
+use Rattle.literal.proofs.Literal.positive.Reads as positive-reads
 use Rattle.netlist.proofs.again.gate_at.Reads as gate-at-reads
 
 gate-at-requires : tie.Need-gate-at-requires

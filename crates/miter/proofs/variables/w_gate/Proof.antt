@@ -7,7 +7,7 @@ use Rattle.miter.proofs.variables.w_gate.Tie as tie
 use Rattle.miter.proofs.variables.w_gate.Reads as reads
 use Rattle.miter.proofs.variables.w_gate.Lts as lts
 use Rattle.miter.proofs.variables.w_variable.Reads as w-variable-reads
-use Rattle.clause.proofs.Literal.negative.Reads as negative-reads
+use Rattle.literal.proofs.Literal.negative.Reads as negative-reads
 
 add-negative : tie.Need-add-negative
 add-negative c = search needs

@@ -12,7 +12,7 @@ use Rattle.miter.proofs.variables.z_gate.Tie as tie
 use Rattle.miter.proofs.variables.z_gate.Reads as reads
 use Rattle.miter.proofs.variables.z_gate.Lts as lts
 use Rattle.miter.proofs.variables.shift.Reads as shift-reads
-use Rattle.clause.proofs.Literal.positive.Reads as positive-reads
+use Rattle.literal.proofs.Literal.positive.Reads as positive-reads
 use Rattle.netlist.proofs.again.output_at.Reads as output-at-reads
 
 output-at-requires : tie.Need-output-at-requires

@@ -6,7 +6,7 @@ use Rattle.table.proofs.rows.representative.Statement.{statement}
 use Rattle.table.proofs.rows.representative.Tie as tie
 use Rattle.table.proofs.rows.representative.Reads as reads
 use Rattle.table.proofs.rows.representative.Lts as lts
-use Rattle.clause.proofs.Literal.complement.Reads as complement-reads
+use Rattle.literal.proofs.Literal.complement.Reads as complement-reads
 
 cast-at : tie.Need-cast-at
 cast-at c = search needs
