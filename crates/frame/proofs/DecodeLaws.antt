@@ -11,7 +11,7 @@ use borrow.Author.Tests.{eq-eqb, ne-eqb}
 use Rattle.model.specs.Answers.{guard}
 use Rattle.model.specs.Answers.Answer.{ok, refused}
 use Rattle.model.specs.Frames.{widths, isKind, number, total, split, decodeAs, decode, oneByte}
-use Rattle.frame.specs.Digits.{values, numberAt}
+use Rattle.digits.specs.Digits.{values, numberAt}
 
 -- the fields of these widths, from a place on
 abbrev pub fieldsAt : List ℕ → ℕ → List ℕ → List ℕ

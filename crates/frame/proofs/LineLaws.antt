@@ -11,11 +11,11 @@ use borrow.Author.Tests.{eq-eqb, ne-eqb}
 use Rattle.model.specs.Lines.{Line, isDigit, lineFeed, withByte, prepend, lines}
 use Rattle.model.specs.Lines.Line.{digits, faulty}
 use Rattle.model.specs.Frames.{decode, frameAt}
-use Rattle.frame.specs.Digits.{valueOf, values, run}
-use Rattle.frame.specs.declared.Decoded.{Decoded}
-use Rattle.frame.specs.Frames.{first, firstIn, decodedOf}
+use Rattle.digits.specs.Digits.{valueOf, values, run}
+use Rattle.frame.specs.Frames.{first, firstIn}
 use Rattle.frame.specs.Frames.First.{none, fault}
-use Rattle.frame.proofs.DigitLaws.{digit-not-lf}
+use Rattle.frame.specs.Kinds.{Unframed}
+use Rattle.digits.proofs.DigitLaws.{digit-not-lf}
 
 -- ---- the first line of a text
 
@@ -100,10 +100,6 @@ module _ (text : List ℕ) (at line n : ℕ) (e : n ≡ run (drop at text)) wher
       let w = lines-whole (drop at text) (rw (← e, length-drop) (omega arith)) (rw (← e) (getD-drop at text n 0 ∙ k)) in
       rw (w, ← e, drop-drop (suc n) at text, m)
 
-  -- the same where the line is decoded as a part of the text
-  pub read-decoded : at + n < length text → getD text (at + n) 0 ≡ lineFeed → (r : Decoded) → decodedOf r ≡ decode (values (take (at + n - at) (drop at text))) line
-      → firstIn (decodedOf r) (lines (drop (at + n + 1) text)) (line + 1) ≡ first (lines (drop at text)) line
-  read-decoded h k r d =
-      let m : at + n - at ≡ n = omega arith in
-      let s : line + 1 ≡ suc line = omega arith in
-      sym (read-whole h k ∙ rw (d, m, s))
+  -- the same where the line has no frame
+  pub read-unframed : at + n < length text → getD text (at + n) 0 ≡ lineFeed → Unframed text at → fault 3 line ≡ first (lines (drop at text)) line
+  read-unframed h k u = sym (read-whole h k ∙ rw (← u n line e h k))

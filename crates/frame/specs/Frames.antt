@@ -31,7 +31,10 @@ abbrev pub extendKind : Op → ℕ
 extendKind And = model.extendAndKind
 extendKind Xor = model.extendXorKind
 
--- a report's frame
+-- a resolve's frame, and a report's
+abbrev pub resolve : ℕ → ℕ → ℕ → model.Frame
+resolve a b v = record { kind = model.resolveKind; fields = a ∷ b ∷ v ∷ [] }
+
 abbrev pub report : ℕ → ℕ → ℕ → ℕ → model.Frame
 report refusal line steps clauses = record { kind = model.reportKind; fields = refusal ∷ line ∷ steps ∷ clauses ∷ [] }
 
@@ -39,7 +42,7 @@ abbrev pub frameOf : Frame → model.Frame
 frameOf (Header i g o) = record { kind = model.headerKind; fields = i ∷ g ∷ o ∷ [] }
 frameOf (Gate op x y) = record { kind = gateKind op; fields = x ∷ y ∷ [] }
 frameOf (Output l) = record { kind = model.outputKind; fields = l ∷ [] }
-frameOf (Resolve a b v) = record { kind = model.resolveKind; fields = a ∷ b ∷ v ∷ [] }
+frameOf (Resolve a b v) = resolve a b v
 frameOf (Extend op x y) = record { kind = extendKind op; fields = x ∷ y ∷ [] }
 frameOf (Report r n s c) = report r n s c
 
@@ -86,6 +89,12 @@ abbrev pub Ahead : List ℕ → ℕ → Line → Type 0
 Ahead text at (Read f next) = Inside text next × (at < next .at)
 Ahead text at End = Unit {0}
 Ahead text at (Refused number line) = Unit {0}
+
+-- no frame was read
+abbrev pub NoFrame : Line → Type 0
+NoFrame (Read f next) = ⊥
+NoFrame End = Unit {0}
+NoFrame (Refused number line) = Unit {0}
 
 -- ---- writing
 

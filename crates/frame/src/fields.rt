@@ -1,6 +1,12 @@
 // A frame as its kind and fields, and its line written field by field.
 use crate::Frame;
 use crate::Op;
+use crate::kinds::EXTEND_BYTES;
+use crate::kinds::GATE_BYTES;
+use crate::kinds::HEADER_BYTES;
+use crate::kinds::OUTPUT_BYTES;
+use crate::kinds::REPORT_BYTES;
+use crate::kinds::RESOLVE_BYTES;
 ghost use mathlib.Core.Path.{_≡_};
 ghost use mathlib.Core.List.{_++_};
 ghost use Prim.Native.Nat.{_+_, _-_, _≤_, _<_};
@@ -107,21 +113,21 @@ pub fn line_len(frame: Frame) -> usize
             inputs: _,
             gates: _,
             outputs: _,
-        } => 11,
-        Frame::Gate { op: _, x: _, y: _ } => 11,
-        Frame::Output { literal: _ } => 7,
+        } => HEADER_BYTES,
+        Frame::Gate { op: _, x: _, y: _ } => GATE_BYTES,
+        Frame::Output { literal: _ } => OUTPUT_BYTES,
         Frame::Resolve {
             first: _,
             second: _,
             variable: _,
-        } => 15,
-        Frame::Extend { op: _, x: _, y: _ } => 11,
+        } => RESOLVE_BYTES,
+        Frame::Extend { op: _, x: _, y: _ } => EXTEND_BYTES,
         Frame::Report {
             refusal: _,
             line: _,
             steps: _,
             clauses: _,
-        } => 19,
+        } => REPORT_BYTES,
     }
 }
 

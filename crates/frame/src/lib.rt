@@ -1,24 +1,25 @@
 // One line of a text as one frame, and back (document 01, 'Lines on the wire').
 // Every text gets an answer: nothing here asks anything of the bytes that it is given.
-pub mod digits; // digits of a line, and the fields that they spell
 pub mod fields; // a frame as its kind and fields, for writing
+pub mod kinds; // the table of kinds, for reading
 pub mod report; // a report's line
+pub mod resolves; // a resolve's line, written without a loop
 
-use digits::byte_at;
 use digits::digits_at;
-use digits::triple_at;
-use digits::word_at;
 use fields::clear_bytes;
 use fields::line_len;
 use fields::line_number_fits;
 use fields::write_line;
+use kinds::Look;
+use kinds::frame_at;
 ghost use mathlib.Core.Path.{_≡_};
-ghost use Prim.Native.Nat.{_+_};
+ghost use Prim.Native.Nat.{ℕ, _<_, _≤_};
 ghost use lib.ListN.{drop, length};
 ghost use Rattle.model.specs.Lines.{lines};
-ghost use Rattle.model.specs.Frames.{decode, loneLine, writeFrame, writtenFrame};
-ghost use Rattle.frame.specs.Digits.{values};
-ghost use Rattle.frame.specs.Frames.{frameOf, decodedOf, writtenOf, first, firstOf, Inside, Ahead};
+ghost use Rattle.model.specs.Frames.{loneLine, writeFrame, writtenFrame};
+ghost use Rattle.frame.specs.Frames.{frameOf, decodedOf, writtenOf, first, firstOf, Inside, Ahead, NoFrame};
+ghost use Rattle.frame.specs.Frames.First.{fault};
+ghost use Rattle.frame.specs.Kinds.{Unframed};
 
 // A place in a text: the next byte, and the number of its line, from 1.
 pub struct Cursor {
@@ -84,127 +85,53 @@ pub enum Written {
     Unwritten { number: u8, line: usize },
 }
 
-// The frame that a line's digits spell: the kind decides what frame is due, how long its line is, and how its fields are read.
-fn decode_line(l: &[u8], line: usize) -> Decoded
-    ensures { λ r. ⌜ decodedOf r ≡ decode (values (now (l .entry))) line ⌝ }
+// The refusal of a line that has no frame: 2 where its first byte that is no digit is no LF either, or the text ends before one; else 3.
+fn fault_at(text: &[u8], at: usize) -> u8
+    requires { ⌜ at ≤ length (now text) ⌝ }
+    ensures { λ r. ⌜ (at < length (now (text .entry)) → Unframed (now (text .entry)) at → (line : ℕ) → fault r line ≡ first (lines (drop at (now (text .entry)))) line) ⌝ }
 {
-    let n = l.len();
-    if n < 2 {
-        return Decoded::Fault { number: 3, line };
+    let end = at + digits_at(text, at);
+    if end == text.len() {
+        return 2;
     }
-    let kind = byte_at(l, 0);
-    match kind {
-        0x01 => {
-            if n != 10 {
-                return Decoded::Fault { number: 3, line };
-            }
-            Decoded::Framed(Frame::Header {
-                inputs: byte_at(l, 2),
-                gates: word_at(l, 4),
-                outputs: byte_at(l, 8),
-            })
-        }
-        0x02 => {
-            if n != 10 {
-                return Decoded::Fault { number: 3, line };
-            }
-            Decoded::Framed(Frame::Gate {
-                op: Op::And,
-                x: word_at(l, 2),
-                y: word_at(l, 6),
-            })
-        }
-        0x03 => {
-            if n != 10 {
-                return Decoded::Fault { number: 3, line };
-            }
-            Decoded::Framed(Frame::Gate {
-                op: Op::Xor,
-                x: word_at(l, 2),
-                y: word_at(l, 6),
-            })
-        }
-        0x04 => {
-            if n != 6 {
-                return Decoded::Fault { number: 3, line };
-            }
-            Decoded::Framed(Frame::Output {
-                literal: word_at(l, 2),
-            })
-        }
-        0x11 => {
-            if n != 14 {
-                return Decoded::Fault { number: 3, line };
-            }
-            Decoded::Framed(Frame::Resolve {
-                first: word_at(l, 2),
-                second: word_at(l, 6),
-                variable: word_at(l, 10),
-            })
-        }
-        0x12 => {
-            if n != 10 {
-                return Decoded::Fault { number: 3, line };
-            }
-            Decoded::Framed(Frame::Extend {
-                op: Op::And,
-                x: word_at(l, 2),
-                y: word_at(l, 6),
-            })
-        }
-        0x13 => {
-            if n != 10 {
-                return Decoded::Fault { number: 3, line };
-            }
-            Decoded::Framed(Frame::Extend {
-                op: Op::Xor,
-                x: word_at(l, 2),
-                y: word_at(l, 6),
-            })
-        }
-        0x21 => {
-            if n != 18 {
-                return Decoded::Fault { number: 3, line };
-            }
-            Decoded::Framed(Frame::Report {
-                refusal: byte_at(l, 2),
-                line: triple_at(l, 4),
-                steps: word_at(l, 10),
-                clauses: word_at(l, 14),
-            })
-        }
-        _ => Decoded::Fault { number: 3, line },
+    if text[end] != 10 {
+        return 2;
+    }
+    3
+}
+
+// What stands at a cursor where no frame does: nothing, or a line that is refused.
+pub fn unframed(text: &[u8], cursor: Cursor) -> Line
+    requires { ⌜ Inside (now text) cursor ⌝ }
+    ensures reads { λ r. ⌜ (Unframed (now (text .entry)) (cursor .at) → firstOf (now (text .entry)) r ≡ first (lines (drop (cursor .at) (now (text .entry)))) (cursor .line)) ⌝ }
+    ensures none { λ r. ⌜ NoFrame r ⌝ }
+{
+    let at = cursor.at;
+    if at == text.len() {
+        return Line::End;
+    }
+    Line::Refused {
+        number: fault_at(text, at),
+        line: cursor.line,
     }
 }
 
-// The line at a cursor. Its bytes are looked at first, as far as its first byte that is no digit; then its frame.
+// The line at a cursor.
 pub fn read_line(text: &[u8], cursor: Cursor) -> Line
     requires { ⌜ Inside (now text) cursor ⌝ }
     ensures reads { λ r. ⌜ firstOf (now (text .entry)) r ≡ first (lines (drop (cursor .at) (now (text .entry)))) (cursor .line) ⌝ }
     ensures ahead { λ r. ⌜ Ahead (now (text .entry)) (cursor .at) r ⌝ }
 {
-    let at = cursor.at;
-    let line = cursor.line;
-    if at == text.len() {
-        return Line::End;
-    }
-    let end = at + digits_at(text, at);
-    if end == text.len() {
-        return Line::Refused { number: 2, line };
-    }
-    if text[end] != 10 {
-        return Line::Refused { number: 2, line };
-    }
-    let decoded = decode_line(&text[at..end], line);
-    match decoded {
-        Decoded::Framed(frame) => Line::Read(
+    let look = frame_at(text, cursor.at);
+    match look {
+        Look::Is(frame, behind) => Line::Read(
             frame,
             Cursor {
-                at: end + 1,
-                line: line + 1,
+                at: behind,
+                line: cursor.line + 1,
             },
         ),
-        Decoded::Fault { number, line } => Line::Refused { number, line },
+        Look::Other => unframed(text, cursor),
     }
 }
 

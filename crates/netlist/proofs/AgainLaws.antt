@@ -5,7 +5,7 @@ use mathlib.Core.Path.{_≡_, refl, sym, ap, _∙_}
 use mathlib.Core.Bool.{Bool, true, false, cond, true≢false}
 use mathlib.Core.List.{List, [], _∷_, _++_}
 use native.Mathlib.Omega.{arith}
-use types.Run.{OneOf, miss}
+use types.Run.{OneOf}
 use denote.Enum.Declared.{tagOf}
 use lib.ListN.{length, drop, getD, drop-of-length-le, List·getD-eq-default}
 use lib.Seq.{drop-drop, getD-drop}
@@ -20,12 +20,12 @@ use Rattle.model.specs.Lists.{gateOf, isGate, isOutput}
 use Rattle.laws.specs.Pairs.{isXor}
 use Rattle.laws.specs.ListText.{Stands, FirstReads, gateFrame, outputFrame, headerBytes, gateBytes, outputBytes, gate-stands, gate-frame-read, output-frame-read, gate-again}
 use Rattle.frame.proofs.Frame as frame-type
-use Rattle.frame.proofs.Line as line-type
 use Rattle.frame.specs.declared.Frame.{Frame}
-use Rattle.frame.specs.declared.Cursor.{Cursor}
-use Rattle.frame.specs.declared.Line.{Line}
-use Rattle.frame.specs.declared.Line.the-variants.{Read, End, Refused}
-use Rattle.frame.specs.Frames.{first, firstOf, frameOf}
+use Rattle.frame.specs.declared.kinds.Look.{Look}
+use Rattle.frame.specs.declared.kinds.Look.the-variants.{Is, Other}
+use Rattle.frame.specs.Frames.{first, frameOf}
+use Rattle.frame.specs.Kinds.{Looked}
+use Rattle.frame.proofs.KindLaws.{none-found-at}
 use Rattle.frame.specs.Frames.First.{found}
 use Rattle.netlist.specs.Again.{noGate}
 use Rattle.netlist.proofs.LineLaws.{not-gate, not-output}
@@ -39,23 +39,20 @@ beyond text place h r =
     let e : [] ≡ r .0 ∷ r .1 = rw (drop-of-length-le text {i = place} (omega arith)) at (r .2) in
     omega (arith, ap length e)
 
-module _ (text : List ℕ) (place : ℕ) (got : Line) (e : firstOf text got ≡ first (lines (drop place text)) 1) (f : model.Frame) (r : FirstReads (drop place text) 1 f) where
-  is-found : firstOf text got ≡ found f (r .1) 2
+module _ (text : List ℕ) (place : ℕ) (look : Look) (h : Looked text place look) (f : model.Frame) (r : FirstReads (drop place text) 1 f) where
+  first-is : first (lines (drop place text)) 1 ≡ found f (r .1) 2
   unfolding first
-  is-found = e ∙ rw (r .2, r .3)
+  first-is = rw (r .2, r .3)
 
-  -- the reader does not say that there is none
-  pub not-missing : OneOf (1 ∷ 2 ∷ []) (tagOf line-type.the-type got) → ⊥
-  not-missing k = go got k is-found
-    where
-      go : (g : Line) → OneOf (1 ∷ 2 ∷ []) (tagOf line-type.the-type g) → firstOf text g ≡ found f (r .1) 2 → ⊥
-      go (Read h next) k e = miss (1 ∷ 2 ∷ []) 0 tt k
-      go End k e = let z : _≡_ {A = ℕ} 0 1 = cc in omega arith
-      go (Refused number line) k e = let z : _≡_ {A = ℕ} 0 1 = cc in omega arith
+  -- there is a frame
+  pub not-missing : place ≤ length text → look ≡ Other → ⊥
+  not-missing l is = none-found-at text place 1 l (rw is at h) first-is
 
-  -- and it finds this frame
-  pub found-again : (h : Frame) (next : Cursor) → got ≡ Read h next → frameOf h ≡ f
-  found-again h next is = same-found (rw is at is-found)
+  -- and it is this one
+  pub found-again : (g : Frame) (behind : ℕ) → look ≡ Is g behind → frameOf g ≡ f
+  found-again g behind is =
+      let k : Looked text place (Is g behind) = rw is at h in
+      same-found (k .2 1 ∙ first-is)
     where
       same-found : {g h : model.Frame} {ls ms : List model-line.Line} {i j : ℕ} → found g ls i ≡ found h ms j → g ≡ h
       same-found e = cc

@@ -1,4 +1,3 @@
 pub mod Says
 pub mod Replies
 pub mod Again
-pub mod Plain

@@ -1,11 +1,12 @@
 // Gates and outputs of a list that was read, by their place: the lines of a list have fixed lengths. Each contract names gate k, or output k,
 // of whatever list the text has at that place, so that nobody proves the reading again.
-use frame::Cursor;
 use frame::Frame;
-use frame::Line;
 use frame::Op;
-use words::read::gate_line;
-use words::read::output_line;
+use frame::kinds::GATE_BYTES;
+use frame::kinds::HEADER_BYTES;
+use frame::kinds::Look;
+use frame::kinds::OUTPUT_BYTES;
+use frame::kinds::frame_at;
 ghost use mathlib.Core.Path.{_≡_};
 ghost use Prim.Native.Nat.{_≤_, _<_};
 ghost use lib.ListN.{drop, length, getD};
@@ -13,13 +14,6 @@ ghost use Rattle.model.specs.Limits.{mostGates, mostOutputs};
 ghost use Rattle.model.specs.Nets.{Netlist};
 ghost use Rattle.laws.specs.ListText.{Stands};
 ghost use Rattle.netlist.specs.Again.{opOf, gateMeant, noGate};
-
-// The bytes of each line of a list, its LF counted.
-pub const HEADER_BYTES: usize = 11;
-
-pub const GATE_BYTES: usize = 11;
-
-pub const OUTPUT_BYTES: usize = 7;
 
 pub struct Gate {
     pub op: Op,
@@ -40,8 +34,8 @@ pub fn gate_at(text: &[u8], at: usize, k: usize) -> Gate
             y: 0,
         };
     }
-    let got = gate_line(text, Cursor { at: place, line: 1 });
-    let Line::Read(frame, _) = got else {
+    let look = frame_at(text, place);
+    let Look::Is(frame, _) = look else {
         return Gate {
             op: Op::And,
             x: 0,
@@ -82,8 +76,8 @@ pub fn output_at(text: &[u8], at: usize, gates: usize, k: usize) -> u16
     if text.len() < place {
         return 0;
     }
-    let got = output_line(text, Cursor { at: place, line: 1 });
-    let Line::Read(frame, _) = got else {
+    let look = frame_at(text, place);
+    let Look::Is(frame, _) = look else {
         return 0;
     };
     let Frame::Output { literal } = frame else {

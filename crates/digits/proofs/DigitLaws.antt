@@ -1,0 +1,82 @@
+-- Laws of digits: which bytes they are, what they are worth, how many stand at a place, and the numbers that they spell.
+use Prim.Native.Nat.{ℕ, zero, suc, _+_, _-_, _*_, _<_, _≤_}
+use mathlib.Core.Path.{_≡_, refl, sym}
+use mathlib.Core.List.{List, [], _∷_}
+use mathlib.Core.Bool.{Bool, true, false, _&&_, _||_, true≢false}
+use native.Mathlib.Numerals.{add-one, one-add}
+use native.Mathlib.Omega.{arith}
+use lib.Dec.{leb, eqb}
+use lib.ListN.{length, drop, getD, drop-of-length-le}
+use lib.Seq.{drop-cons}
+use borrow.Author.Tests.{le-leb, lt-leb, leb-true, ne-eqb}
+use Rattle.model.specs.Lines.{isDigit, digitOf}
+use Rattle.model.specs.Frames.{number, oneByte, twoBytes, threeBytes}
+use Rattle.laws.specs.Digits.{digit-byte}
+use Rattle.digits.specs.Digits.{valueOf, values, run, numberAt}
+
+-- ---- one digit
+
+-- from '0' up, and below 'G'
+pub digit-range : (b : ℕ) → isDigit b ≡ true → (48 ≤ b) × (b ≤ 70)
+digit-range b = go (leb 48 b) (leb b 57) (leb 65 b) (leb b 70) refl refl refl refl
+  where
+    go : (s t u v : Bool) → leb 48 b ≡ s → leb b 57 ≡ t → leb 65 b ≡ u → leb b 70 ≡ v → (s && t) || (u && v) ≡ true → (48 ≤ b) × (b ≤ 70)
+    go true true u v s t _ _ e = (leb-true 48 b s, omega (arith, leb-true b 57 t))
+    go true false true true s t u v e = (leb-true 48 b s, leb-true b 70 v)
+    go true false true false s t u v e = absurd (true≢false (sym e))
+    go true false false v s t _ _ e = absurd (true≢false (sym e))
+    go false t true true s _ u v e = (omega (arith, leb-true 65 b u), leb-true b 70 v)
+    go false t true false s _ u v e = absurd (true≢false (sym e))
+    go false t false v s _ _ _ e = absurd (true≢false (sym e))
+
+pub digit-not-lf : (b : ℕ) → isDigit b ≡ true → eqb b 10 ≡ false
+digit-not-lf b e = ne-eqb b 10 (λ h. omega (arith, digit-range b e))
+
+pub value-decimal : (b : ℕ) → isDigit b ≡ true → b < 58 → valueOf b ≡ b - 48
+unfolding valueOf
+value-decimal b e h = rw (e, le-leb b 57 (omega arith))
+
+pub value-letter : (b : ℕ) → isDigit b ≡ true → 58 ≤ b → valueOf b ≡ b - 55
+unfolding valueOf
+value-letter b e h = rw (e, lt-leb b 57 (omega arith))
+
+-- a digit has a value below 16, and is the byte of that value
+pub value-back : (b : ℕ) → isDigit b ≡ true → (valueOf b < 16) × (digitOf (valueOf b) ≡ b)
+unfolding valueOf
+value-back b e = rw e (digit-byte b e)
+
+-- ---- a run of digits
+
+pub run-stop : (l : List ℕ) (i : ℕ) → i < length l → isDigit (getD l i 0) ≡ false → run (drop i l) ≡ 0
+run-stop l i h e = rw (drop-cons l i 0, e)
+
+pub run-more : (l : List ℕ) (i : ℕ) → i < length l → isDigit (getD l i 0) ≡ true → run (drop i l) ≡ 1 + run (drop (i + 1) l)
+run-more l i h e = rw (drop-cons l i 0, e, add-one, one-add)
+
+pub run-end : (l : List ℕ) (i : ℕ) → length l ≤ i → run (drop i l) ≡ 0
+run-end l i h = rw (drop-of-length-le l h)
+
+-- ---- numbers
+
+-- two digits at a place
+front : (l : List ℕ) (k : ℕ) → k + 2 ≤ length l → drop k (values l) ≡ valueOf (getD l k 0) ∷ valueOf (getD l (k + 1) 0) ∷ drop (k + 2) (values l)
+front [] k h = absurd (omega arith)
+front (a ∷ []) k h = absurd (omega arith)
+front (a ∷ b ∷ l) zero h = refl
+front (a ∷ b ∷ l) (suc k) h =
+    let s : suc k + 1 ≡ suc (k + 1) = omega arith in
+    let t : suc k + 2 ≡ suc (k + 2) = omega arith in
+    rw (s, t) (front (b ∷ l) k (omega arith))
+
+module _ (l : List ℕ) (k : ℕ) where
+  pub byte-number : k + 2 ≤ length l → numberAt l k oneByte ≡ 16 * valueOf (getD l k 0) + valueOf (getD l (k + 1) 0)
+  unfolding numberAt number
+  byte-number h = rw (front l k h) (omega arith)
+
+  pub word-number : k + 4 ≤ length l → numberAt l k twoBytes ≡ 256 * numberAt l k oneByte + numberAt l (k + 2) oneByte
+  unfolding numberAt number
+  word-number h = rw (front l k (omega arith), front l (k + 2) (omega arith)) (omega arith)
+
+  pub triple-number : k + 6 ≤ length l → numberAt l k threeBytes ≡ 65536 * numberAt l k oneByte + numberAt l (k + 2) twoBytes
+  unfolding numberAt number
+  triple-number h = rw (front l k (omega arith), front l (k + 2) (omega arith), front l (k + 2 + 2) (omega arith)) (omega arith)

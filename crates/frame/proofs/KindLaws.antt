@@ -1,0 +1,199 @@
+-- Laws of looking at a line: its digits run from its kind through its fields to LF, so that it is decoded as the table has it; where the run stops
+-- before, or LF stands elsewhere, the line has another length than its kind and is refused.
+use Prim.Native.Nat.{ℕ, zero, suc, _+_, _-_, _<_, _≤_}
+use mathlib.Core.Path.{_≡_, refl, sym, ap, _∙_}
+use mathlib.Core.List.{List, [], _∷_}
+use mathlib.Core.Bool.{Bool, true, false, cond}
+use native.Mathlib.Omega.{arith}
+use lib.ListN.{length, take, drop, getD, length-drop}
+use lib.Seq.{length-take-le, drop-drop}
+use lib.Dec.{ltb, eqb}
+use borrow.Author.Tests.{ltb-true, ltb-false, eqb-true, eqb-false}
+use Rattle.model.specs.Answers.Answer.{refused}
+use Rattle.model.specs.Lines as model-line
+use Rattle.model.specs.Lines.{isDigit, lineFeed, lines}
+use Rattle.model.specs.Frames as model
+use Rattle.model.specs.Frames.{widths, isKind, total, number, oneByte, twoBytes, decode}
+use Rattle.digits.specs.Digits.{valueOf, values, run, numberAt, byteLimit, Spelt}
+use Rattle.digits.proofs.DigitLaws.{run-stop}
+use Rattle.frame.specs.declared.Op.{Op}
+use Rattle.frame.specs.declared.Op.the-variants.{And, Xor}
+use Rattle.frame.specs.declared.Cursor.{Cursor}
+use Rattle.frame.specs.declared.Frame.{Frame}
+use Rattle.frame.specs.declared.Line.{Line}
+use Rattle.frame.specs.declared.Line.the-variants.{Read, End, Refused}
+use Rattle.frame.specs.declared.kinds.Look.{Look}
+use Rattle.frame.specs.declared.kinds.Look.the-variants.{Is, Other}
+use Rattle.frame.specs.Frames.{gateKind, extendKind, frameOf, first, Inside, Ahead, NoFrame}
+use Rattle.frame.specs.Frames.First.{found}
+use Rattle.frame.specs.Kinds.{KindAt, Feeds, Unframed, Looked}
+use Rattle.frame.proofs.DecodeLaws.{fieldsAt, whole, wrong-length, no-kind, short}
+use Rattle.frame.proofs.FirstLaws.{none-found, found-fault}
+use Rattle.frame.proofs.LineLaws.{read-end, read-open, read-other, read-whole, read-unframed}
+
+-- ---- numbers of a line are those of the text
+
+values-drop : (at : ℕ) (l : List ℕ) → values (drop at l) ≡ drop at (values l)
+values-drop zero l = refl
+values-drop (suc at) [] = refl
+values-drop (suc at) (b ∷ l) = values-drop at l
+
+take-part : (l : List ℕ) (n k w : ℕ) → k + w ≤ n → take w (drop k (values (take n l))) ≡ take w (drop k (values l))
+take-part l zero zero zero h = refl
+take-part l zero zero (suc w) h = absurd (omega arith)
+take-part l zero (suc k) w h = absurd (omega arith)
+take-part [] (suc n) k w h = refl
+take-part (b ∷ l) (suc n) zero zero h = refl
+take-part (b ∷ l) (suc n) zero (suc w) h = ap (λ (t : List ℕ). valueOf b ∷ t) (take-part l n zero w (omega arith))
+take-part (b ∷ l) (suc n) (suc k) w h = take-part l n k w (omega arith)
+
+module _ (text : List ℕ) (at n : ℕ) where
+  part-long : at + n < length text → length (take n (drop at text)) ≡ n
+  part-long h = length-take-le n (drop at text) (rw length-drop (omega arith))
+
+  part-number : (k w : ℕ) → k + w ≤ n → numberAt (take n (drop at text)) k w ≡ numberAt text (at + k) w
+  unfolding numberAt
+  part-number k w h =
+      ap (number 0) (take-part (drop at text) n k w h ∙ rw (values-drop at text, drop-drop k at (values text)))
+
+  part-fields : (ws : List ℕ) (k : ℕ) → k + total ws ≤ n → fieldsAt (take n (drop at text)) k ws ≡ fieldsAt text (at + k) ws
+  unfolding total
+  part-fields [] k h = refl
+  part-fields (w ∷ ws) k h =
+      let e : at + (k + w) ≡ at + k + w = omega arith in
+      rw (part-number k w (omega arith), part-fields ws (k + w) (omega arith), e)
+
+-- ---- fields one behind the other
+
+-- numbers that digits of these widths spell from a place on
+abbrev pub AllSpelt : List ℕ → ℕ → List ℕ → List ℕ → Type 0
+AllSpelt text at [] rs = rs ≡ []
+AllSpelt text at (w ∷ ws) [] = ⊥
+AllSpelt text at (w ∷ ws) (r ∷ rs) = (run (drop at text) ≡ w + run (drop (at + w) text)) × (r ≡ numberAt text at w) × AllSpelt text (at + w) ws rs
+
+-- one more in front, where the next stands right behind it
+pub spelt-more : {text : List ℕ} {at w limit r : ℕ} (next : ℕ) (ws rs : List ℕ) → Spelt text at w limit r → r < limit → next ≡ at + w → AllSpelt text next ws rs
+    → AllSpelt text at (w ∷ ws) (r ∷ rs)
+spelt-more next ws rs s h e rest = (rw (← e) (s .goes h next e), s .number h, rw (← e) rest)
+
+spelt-run : (text : List ℕ) (at : ℕ) (ws rs : List ℕ) → AllSpelt text at ws rs → run (drop at text) ≡ total ws + run (drop (at + total ws) text)
+unfolding total
+spelt-run text at [] rs h = let z : at + 0 ≡ at = omega arith in rw z (omega arith)
+spelt-run text at (w ∷ ws) [] h = absurd h
+spelt-run text at (w ∷ ws) (r ∷ rs) h =
+    let z : at + w + total ws ≡ at + (w + total ws) = omega arith in
+    let e = rw z at (spelt-run text (at + w) ws rs (h .2)) in
+    omega (arith, h .0)
+
+spelt-fields : (text : List ℕ) (at : ℕ) (ws rs : List ℕ) → AllSpelt text at ws rs → fieldsAt text at ws ≡ rs
+spelt-fields text at [] rs h = sym h
+spelt-fields text at (w ∷ ws) [] h = absurd h
+spelt-fields text at (w ∷ ws) (r ∷ rs) h = rw (← h .1, spelt-fields text (at + w) ws rs (h .2))
+
+-- ---- a line of a kind
+
+kind-spelt : (text : List ℕ) (at kind n : ℕ) → KindAt text at kind → oneByte ≤ n → kind ≡ numberAt (take n (drop at text)) 0 oneByte
+kind-spelt text at kind n k h = let z : at + 0 ≡ at = omega arith in k .spelt ∙ sym (rw z at (part-number text at n 0 oneByte (omega arith)))
+
+module _ (text : List ℕ) (at : ℕ) {kind : ℕ} (ws : List ℕ) (k : KindAt text at kind) (w : widths kind ≡ ws) where
+  -- the fields of the kind, and LF behind them
+  pub framed : (rs : List ℕ) (n : ℕ) → isKind ws ≡ true → AllSpelt text (at + oneByte) ws rs → n ≡ oneByte + total ws → at + n < length text → getD text (at + n) 0 ≡ lineFeed
+      → (line : ℕ) → found (record { kind = kind; fields = rs }) (lines (drop (at + n + 1) text)) (suc line) ≡ first (lines (drop at text)) line
+  framed rs n some h q f l line =
+      let stop : run (drop (at + n) text) ≡ 0 = run-stop text (at + n) f (rw l) in
+      let z : at + oneByte + total ws ≡ at + n = omega arith in
+      let on = rw z at (spelt-run text (at + oneByte) ws rs h) in
+      let runs : n ≡ run (drop at text) = omega (arith, k .goes) in
+      let fields : fieldsAt (take n (drop at text)) oneByte (widths kind) ≡ rs = rw w (part-fields text at n ws oneByte (omega arith) ∙ spelt-fields text (at + oneByte) ws rs h) in
+      let d = whole (take n (drop at text)) line (kind-spelt text at kind n k (omega arith)) refl (rw w some) (part-long text at n f ∙ rw w q) in
+      sym (read-whole text at line n runs f l ∙ rw (← d, fields))
+
+  -- no line of the kind's length
+  other-length : ((n : ℕ) → n ≡ oneByte + total ws → n ≡ run (drop at text) → at + n < length text → getD text (at + n) 0 ≡ lineFeed → ⊥) → Unframed text at
+  other-length not n line e h f =
+      wrong-length (take n (drop at text)) line (kind-spelt text at kind n k (omega (arith, k .goes))) refl
+      (λ q. not n (sym (part-long text at n h) ∙ rw w at q) e h f)
+
+  pub unfed : {bytes : ℕ} {r : Bool} → Feeds text at bytes r → r ≡ false → suc (oneByte + total ws) ≡ bytes → Unframed text at
+  unfed f is e = other-length (λ n q _ h l. f .none is n (omega arith) h l)
+
+  -- the run of digits stops within the fields
+  pub stopped : run (drop at text) < oneByte + total ws → Unframed text at
+  stopped h = other-length (λ n q e _ _. omega arith)
+
+-- both kinds of a gate, and both of an extension, have two literals
+pub gate-widths : (op : Op) → widths (gateKind op) ≡ twoBytes ∷ twoBytes ∷ []
+unfolding widths
+gate-widths And = refl
+gate-widths Xor = refl
+
+pub extend-widths : (op : Op) → widths (extendKind op) ≡ twoBytes ∷ twoBytes ∷ []
+unfolding widths
+extend-widths And = refl
+extend-widths Xor = refl
+
+-- ---- the kind
+
+module _ (text : List ℕ) (at r : ℕ) (room : at + oneByte ≤ length text) (s : Spelt text at oneByte byteLimit r) where
+  pub known : {kind : ℕ} → r ≡ kind → kind < byteLimit → KindAt text at kind
+  known e h = rw (← e) (record { room = room; goes = s .goes (omega arith) (at + oneByte) refl; spelt = s .number (omega arith) })
+
+  -- a number outside the table, or no digits
+  pub unknown : isKind (widths r) ≡ false → Unframed text at
+  unknown none n line e h f = go (ltb r byteLimit) refl
+    where
+      go : (t : Bool) → ltb r byteLimit ≡ t → refused 3 line ≡ decode (values (take n (drop at text))) line
+      go true t =
+          let k = known refl (ltb-true r byteLimit t) in
+          no-kind (take n (drop at text)) line (kind-spelt text at r n k (omega (arith, k .goes))) refl none
+      go false t = short (take n (drop at text)) line (omega (arith, s .stops (ltb-false r byteLimit t), part-long text at n h))
+
+-- less than two bytes
+pub unframed-short : (text : List ℕ) (at : ℕ) → length text < at + oneByte → Unframed text at
+unframed-short text at r n line e h f = short (take n (drop at text)) line (omega (arith, part-long text at n h))
+
+-- ---- the line at a cursor
+
+module _ (text : List ℕ) (c : Cursor) {look : Look} (h : Looked text (c .at) look) where
+  -- its frame, with the cursor behind it
+  pub look-framed : c .line ≤ suc (c .at) → {f : Frame} {behind : ℕ} → look ≡ Is f behind
+      → (found (frameOf f) (lines (drop behind text)) (c .line + 1) ≡ first (lines (drop (c .at) text)) (c .line)) × (Inside text (record { at = behind; line = c .line + 1 }) × (c .at < behind))
+  look-framed i {f} {behind} e =
+      let k : Looked text (c .at) (Is f behind) = rw e at h in
+      let s : c .line + 1 ≡ suc (c .line) = omega arith in
+      (rw s (k .2 (c .line)), (record { at = k .1; line = omega (arith, k .0) }, k .0))
+
+  -- or it has none
+  pub look-unframed : look ≡ Other → Unframed text (c .at)
+  look-unframed e = rw e at h
+
+run-length : (s : List ℕ) → run s ≤ length s
+run-length [] = omega arith
+run-length (b ∷ s) = go (isDigit b) (run-length s)
+  where
+    go : (t : Bool) → run s ≤ length s → cond t (suc (run s)) 0 ≤ suc (length s)
+    go true h = omega arith
+    go false h = omega arith
+
+-- then no frame is found there
+pub none-found-at : (text : List ℕ) (at line : ℕ) {f : model.Frame} {ls : List model-line.Line} {next : ℕ} → at ≤ length text → Unframed text at
+    → first (lines (drop at text)) line ≡ found f ls next → ⊥
+none-found-at text at line {f} {ls} {next} h u e = go (ltb at (length text)) (eqb (at + run (drop at text)) (length text)) (eqb (getD text (at + run (drop at text)) 0) lineFeed) refl refl refl
+  where
+    go : (s t v : Bool) → ltb at (length text) ≡ s → eqb (at + run (drop at text)) (length text) ≡ t → eqb (getD text (at + run (drop at text)) 0) lineFeed ≡ v → ⊥
+    go false t v p q r = none-found (sym (read-end text at line _ refl (ltb-false at (length text) p)) ∙ e)
+    go true true v p q r = found-fault (sym e ∙ read-open text at line _ refl (ltb-true at (length text) p) (eqb-true _ _ q))
+    go true false v p q r =
+        let l : run (drop at text) ≤ length text - at = rw length-drop at (run-length (drop at text)) in
+        let m : at + run (drop at text) < length text = omega (arith, eqb-false (at + run (drop at text)) (length text) q, ltb-true at (length text) p) in
+        feed v r m
+      where
+        feed : (v : Bool) → eqb (getD text (at + run (drop at text)) 0) lineFeed ≡ v → at + run (drop at text) < length text → ⊥
+        feed true r m = found-fault (sym e ∙ sym (read-unframed text at line _ refl m (eqb-true _ _ r) u))
+        feed false r m = found-fault (sym e ∙ read-other text at line _ refl m (eqb-false _ _ r))
+
+-- where none was read the cursor is not farther on
+pub nowhere : (text : List ℕ) (at : ℕ) (got : Line) → NoFrame got → Ahead text at got
+nowhere text at (Read f next) n = absurd n
+nowhere text at End n = tt
+nowhere text at (Refused number line) n = tt

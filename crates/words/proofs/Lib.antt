@@ -1,4 +1,0 @@
--- The laws; rt itself finds the proof of each function by its place.
-pub mod PackLaws
-pub mod LookLaws
-pub mod PutLaws
