@@ -72,11 +72,11 @@ module _ (a b c d : ℕ) (ia : isDigit a ≡ true) (ib : isDigit b ≡ true) (ic
       let s : ℕ = d / 64 + 4 * 0 in
       let e : packed a b c d / 64 ≡ packed p q r s = omega arith in
       let low : bitAnd (packed a b c d) 0x0F0F0F0F ≡ packed (a % 16) (b % 16) (c % 16) (d % 16) =
-          and-packed a b c d 15 15 15 15 (omega arith) (omega arith) (omega arith) (omega arith) (omega arith) (omega arith) (omega arith) (omega arith)
-          ∙ rw (and-mask a 4, and-mask b 4, and-mask c 4, and-mask d 4) in
+      and-packed a b c d 15 15 15 15 (omega arith) (omega arith) (omega arith) (omega arith) (omega arith) (omega arith) (omega arith) (omega arith)
+      ∙ rw (and-mask a 4, and-mask b 4, and-mask c 4, and-mask d 4) in
       let high : bitAnd (packed p q r s) 0x01010101 ≡ packed (a / 64) (b / 64) (c / 64) (d / 64) =
-          and-packed p q r s 1 1 1 1 (omega arith) (omega arith) (omega arith) (omega arith) (omega arith) (omega arith) (omega arith) (omega arith)
-          ∙ rw (lowest (a / 64) (b % 64) (omega arith), lowest (b / 64) (c % 64) (omega arith), lowest (c / 64) (d % 64) (omega arith), lowest (d / 64) 0 (omega arith)) in
+      and-packed p q r s 1 1 1 1 (omega arith) (omega arith) (omega arith) (omega arith) (omega arith) (omega arith) (omega arith) (omega arith)
+      ∙ rw (lowest (a / 64) (b % 64) (omega arith), lowest (b / 64) (c % 64) (omega arith), lowest (c / 64) (d % 64) (omega arith), lowest (d / 64) 0 (omega arith)) in
       rw (e, low, high, value-sum a ia, value-sum b ib, value-sum c ic, value-sum d id) (omega arith)
 
 -- four values have four bits each

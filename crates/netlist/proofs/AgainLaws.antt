@@ -20,14 +20,18 @@ use Rattle.model.specs.Lists.{gateOf, isGate, isOutput}
 use Rattle.laws.specs.Pairs.{isXor}
 use Rattle.laws.specs.ListText.{Stands, FirstReads, gateFrame, outputFrame, headerBytes, gateBytes, outputBytes, gate-stands, gate-frame-read, output-frame-read, gate-again}
 use Rattle.frame.proofs.Frame as frame-type
+use Rattle.frame.specs.declared.Op.{Op}
+use Rattle.frame.specs.declared.Op.the-variants.{And, Xor}
 use Rattle.frame.specs.declared.Frame.{Frame}
+use Rattle.frame.specs.declared.Frame.the-variants as frame-case
 use Rattle.frame.specs.declared.kinds.Look.{Look}
 use Rattle.frame.specs.declared.kinds.Look.the-variants.{Is, Other}
 use Rattle.frame.specs.Frames.{first, frameOf}
 use Rattle.frame.specs.Kinds.{Looked}
 use Rattle.frame.proofs.KindLaws.{none-found-at}
 use Rattle.frame.specs.Frames.First.{found}
-use Rattle.netlist.specs.Again.{noGate}
+use Rattle.netlist.specs.declared.again.Gate.{Gate}
+use Rattle.netlist.specs.Again.{opOf, gateMeant, noGate}
 use Rattle.netlist.proofs.LineLaws.{not-gate, not-output}
 
 -- ---- a frame again
@@ -90,45 +94,9 @@ module _ (text : List ℕ) (at : ℕ) {n : Netlist} (s : Stands (drop at text) n
 
 -- ---- a gate's operation alone
 
--- the second byte of a gate's line tells AND from XOR
-kind-byte : (b : Bool) (x y : ℕ) (q : List ℕ) → getD (model.lineOf (record { kind = cond b xorKind andKind; fields = x ∷ y ∷ [] }) ++ q) 1 0 ≡ cond b 51 50
-unfolding model.lineOf model.hex
-kind-byte true x y q = refl
-kind-byte false x y q = refl
-
-module _ (text : List ℕ) (at : ℕ) {n : Netlist} (s : Stands (drop at text) n) (k : ℕ) (h : k < length (n .gates)) where
-  op-byte : getD text (at + headerBytes + gateBytes * k + 1) 0 ≡ cond (isXor (getD (n .gates) k noGate .op)) 51 50
-  op-byte =
-      let g : nets.Gate = getD (n .gates) k noGate in
-      let q = gate-stands s k noGate h in
-      let e : at + headerBytes + gateBytes * k ≡ at + (headerBytes + gateBytes * k) = omega arith in
-      sym (getD-drop (at + headerBytes + gateBytes * k) text 1 0)
-      ∙ rw (e, ← drop-drop (headerBytes + gateBytes * k) at text, q .1) (kind-byte (isXor (g .op)) (g .x) (g .y) (q .0))
-
-  pub op-there : length text ≤ at + headerBytes + gateBytes * k + 1 → ⊥
-  op-there l = go (isXor (getD (n .gates) k noGate .op)) (sym (List·getD-eq-default text 0 l) ∙ op-byte)
-    where
-      go : (b : Bool) → _≡_ {A = ℕ} 0 (cond b 51 50) → ⊥
-      go true e = omega arith
-      go false e = omega arith
-
-  op-again : (b : Bool) → isXor (getD (n .gates) k noGate .op) ≡ b → cond b nets.Op.xor nets.Op.and ≡ getD (n .gates) k noGate .op
-  op-again b e = by-kind b ∙ rw (← e) (ap (λ (g : nets.Gate). g .op) (gate-again s k noGate h))
-    where
-      by-kind : (b : Bool) → cond b nets.Op.xor nets.Op.and ≡ cond (eqb (cond b xorKind andKind) xorKind) nets.Op.xor nets.Op.and
-      by-kind true = refl
-      by-kind false = refl
-
-  pub op-xor : getD text (at + headerBytes + gateBytes * k + 1) 0 ≡ 51 → nets.Op.xor ≡ getD (n .gates) k noGate .op
-  op-xor e = go (isXor (getD (n .gates) k noGate .op)) refl
-    where
-      go : (b : Bool) → isXor (getD (n .gates) k noGate .op) ≡ b → nets.Op.xor ≡ getD (n .gates) k noGate .op
-      go true q = op-again true q
-      go false q = absurd (let z : _≡_ {A = ℕ} 51 50 = sym e ∙ op-byte ∙ rw q in omega arith)
-
-  pub op-and : (getD text (at + headerBytes + gateBytes * k + 1) 0 ≡ 51 → ⊥) → nets.Op.and ≡ getD (n .gates) k noGate .op
-  op-and e = go (isXor (getD (n .gates) k noGate .op)) refl
-    where
-      go : (b : Bool) → isXor (getD (n .gates) k noGate .op) ≡ b → nets.Op.and ≡ getD (n .gates) k noGate .op
-      go true q = absurd (e (op-byte ∙ rw q))
-      go false q = op-again false q
+pub op-meant : (g : Gate) → gateMeant g .op ≡ opOf (g .op)
+op-meant g = go (g .op)
+  where
+    go : (op : Op) → gateOf xorKind (frameOf (frame-case.Gate op (g .x) (g .y))) .op ≡ opOf op
+    go And = refl
+    go Xor = refl

@@ -52,19 +52,13 @@ pub fn gate_at(text: &[u8], at: usize, k: usize) -> Gate
     Gate { op, x, y }
 }
 
-// The operation of gate k alone: the second digit of its kind tells AND from XOR.
+// The operation of gate k alone.
 pub fn op_at(text: &[u8], at: usize, k: usize) -> Op
     requires { ⌜ (at ≤ length (now text)) × (k < mostGates) ⌝ }
     ensures { λ r. ⌜ ((n : Netlist) → Stands (drop at (now (text .entry))) n → k < length (n .gates) → opOf r ≡ getD (n .gates) k noGate .op) ⌝ }
 {
-    let place = at + HEADER_BYTES + GATE_BYTES * k + 1;
-    if text.len() <= place {
-        return Op::And;
-    }
-    if text[place] == 51 {
-        return Op::Xor;
-    }
-    Op::And
+    let gate = gate_at(text, at, k);
+    gate.op
 }
 
 // The literal of output k, from 0, of the list at a place, which has so many gates.

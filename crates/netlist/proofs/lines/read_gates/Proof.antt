@@ -139,9 +139,11 @@ loop-again c =
     let is = c .before .before .before .before .before .before .before .before .before .before .look .given in
     let f = look-framed (now (a .text)) here (look .ensures) (l .inv .1 .inside .line) (is .1) in
     let gate = c .before .before .before .before .before .before .before .frame .given in
-    let e : a .cursor .line + l .i + 1 ≡ a .cursor .line + (l .i + 1) = omega arith in
-    (omega arith, rw (← e) (gates-more (now (a .text)) (a .cursor) (a .first) (a .count) (l .i) here (l .inv .1) (omega arith) _
-    (gate-read (now (a .text)) here (is .0 .0) (from-place (is .0 .1 .0) (here .line + 1)) (f .0) _ _ _ (gate .1) (a .first + l .i) (rw (lt-ltb (gate .0 .1 .0 / 2) (a .first + l .i) (omega (arith, c .before .before .before .before .variable .ensures, c .before .before .before .before .before .of .ensures)), lt-ltb (gate .0 .1 .1 .0 / 2) (a .first + l .i) (omega (arith, c .before .variable2 .ensures, c .before .before .of2 .ensures)))) (f .1 .0))))
+    let e : a .cursor .line + l .i + 1 ≡ a .cursor .line + (l .i + 1) = omega arith in (
+      omega arith,
+      rw (← e) (gates-more (now (a .text)) (a .cursor) (a .first) (a .count) (l .i) here (l .inv .1) (omega arith) _
+          (gate-read (now (a .text)) here (is .0 .0) (from-place (is .0 .1 .0) (here .line + 1)) (f .0) _ _ _ (gate .1) (a .first + l .i) (rw (lt-ltb (gate .0 .1 .0 / 2) (a .first + l .i) (omega (arith, c .before .before .before .before .variable .ensures, c .before .before .before .before .before .of .ensures)), lt-ltb (gate .0 .1 .1 .0 / 2) (a .first + l .i) (omega (arith, c .before .variable2 .ensures, c .before .before .of2 .ensures)))) (f .1 .0))),
+    )
 
 add-line-2 : tie.Need-add-line-2 Inv-loop μ-loop
 add-line-2 c = search needs

@@ -112,9 +112,11 @@ loop-again c =
     let is = c .before .before .before .before .before .before .before .look .given in
     let f = look-framed (now (a .text)) here (look .ensures) (l .inv .1 .inside .line) (is .1) in
     let output = c .before .before .before .before .frame .given in
-    let e : a .cursor .line + l .i + 1 ≡ a .cursor .line + (l .i + 1) = omega arith in
-    (omega arith, rw (← e) (outputs-more (now (a .text)) (a .cursor) (a .nets) (a .count) (l .i) here (l .inv .1) (omega arith) _
-    (output-read (now (a .text)) here (is .0 .0) (from-place (is .0 .1 .0) (here .line + 1)) (f .0) _ (output .1) (a .nets) (rw (lt-ltb (output .0 .0 / 2) (a .nets) (omega (arith, c .before .variable .ensures, c .before .before .of .ensures)))) (f .1 .0))))
+    let e : a .cursor .line + l .i + 1 ≡ a .cursor .line + (l .i + 1) = omega arith in (
+      omega arith,
+      rw (← e) (outputs-more (now (a .text)) (a .cursor) (a .nets) (a .count) (l .i) here (l .inv .1) (omega arith) _
+          (output-read (now (a .text)) here (is .0 .0) (from-place (is .0 .1 .0) (here .line + 1)) (f .0) _ (output .1) (a .nets) (rw (lt-ltb (output .0 .0 / 2) (a .nets) (omega (arith, c .before .variable .ensures, c .before .before .of .ensures)))) (f .1 .0))),
+    )
 
 add-line-2 : tie.Need-add-line-2 Inv-loop μ-loop
 add-line-2 c = search needs
