@@ -1,9 +1,9 @@
 -- A line that was read before is read again: where the text's first line is a frame, the cursor's reader finds just that frame, and so it
 -- finds the gate, or the output, of every list that stands there.
-use Prim.Native.Nat.{ℕ, _+_, _*_, _<_, _≤_}
+use Prim.Native.Nat.{ℕ, _+_, _*_, _%_, _<_, _≤_}
 use mathlib.Core.Path.{_≡_, refl, sym, ap, _∙_}
 use mathlib.Core.Bool.{Bool, true, false, cond, true≢false}
-use mathlib.Core.List.{List, [], _∷_, _++_}
+use mathlib.Core.List.{List, [], _∷_}
 use native.Mathlib.Omega.{arith}
 use types.Run.{OneOf, miss}
 use denote.Enum.Declared.{tagOf}
@@ -11,14 +11,16 @@ use lib.ListN.{length, drop, getD, drop-of-length-le, List·getD-eq-default}
 use lib.Seq.{drop-drop, getD-drop}
 use lib.Dec.{eqb}
 use Rattle.model.specs.Lines as model-line
-use Rattle.model.specs.Lines.{lines}
+use Rattle.model.specs.Lines.{isDigit, digitValue, lines}
 use Rattle.model.specs.Frames as model
 use Rattle.model.specs.Frames.{andKind, xorKind}
 use Rattle.model.specs.Nets as nets
 use Rattle.model.specs.Nets.{Netlist}
 use Rattle.model.specs.Lists.{gateOf, isGate, isOutput}
+use Rattle.laws.specs.Digits.{decimal-byte}
+use Rattle.laws.specs.RoundTrip.{kind-read}
 use Rattle.laws.specs.Pairs.{isXor}
-use Rattle.laws.specs.ListText.{Stands, FirstReads, gateFrame, outputFrame, headerBytes, gateBytes, outputBytes, gate-stands, gate-frame-read, output-frame-read, gate-again}
+use Rattle.laws.specs.ListText.{Stands, FirstReads, gateFrame, outputFrame, headerBytes, gateBytes, outputBytes, gate-again}
 use Rattle.frame.proofs.Frame as frame-type
 use Rattle.frame.proofs.Line as line-type
 use Rattle.frame.specs.declared.Frame.{Frame}
@@ -73,7 +75,7 @@ module _ (text : List ℕ) (at : ℕ) {n : Netlist} (s : Stands (drop at text) n
   pub gate-place : k < length (n .gates) → FirstReads (drop (at + headerBytes + gateBytes * k) text) 1 (gateFrame (getD (n .gates) k noGate))
   gate-place h =
       let e : at + headerBytes + gateBytes * k ≡ at + (headerBytes + gateBytes * k) = omega arith in
-      rw (e, ← drop-drop (headerBytes + gateBytes * k) at text) (gate-frame-read s k noGate h 1)
+      rw (e, ← drop-drop (headerBytes + gateBytes * k) at text) (s .gate-frame-read k noGate h 1)
 
   pub gate-is : k < length (n .gates) → {f : model.Frame} → f ≡ gateFrame (getD (n .gates) k noGate) → gateOf xorKind f ≡ getD (n .gates) k noGate
   gate-is h e = ap (gateOf xorKind) e ∙ gate-again s k noGate h
@@ -86,27 +88,25 @@ module _ (text : List ℕ) (at : ℕ) {n : Netlist} (s : Stands (drop at text) n
       → FirstReads (drop (at + headerBytes + gateBytes * gates + outputBytes * k) text) 1 (outputFrame (getD (n .outs) k 0))
   output-place gates m h =
       let e : at + headerBytes + gateBytes * gates + outputBytes * k ≡ at + (headerBytes + gateBytes * length (n .gates) + outputBytes * k) = omega arith in
-      rw (e, ← drop-drop (headerBytes + gateBytes * length (n .gates) + outputBytes * k) at text) (output-frame-read s k h 1)
+      rw (e, ← drop-drop (headerBytes + gateBytes * length (n .gates) + outputBytes * k) at text) (s .output-frame-read k h 1)
 
   pub output-only : (f : Frame) → OneOf (0 ∷ 1 ∷ 3 ∷ 4 ∷ 5 ∷ []) (tagOf frame-type.the-type f) → frameOf f ≡ outputFrame (getD (n .outs) k 0) → ⊥
   output-only f t e = true≢false (sym (ap (λ (g : model.Frame). isOutput (g .kind)) e) ∙ not-output f t)
 
 -- ---- a gate's operation alone
 
--- the second byte of a gate's line tells AND from XOR
-kind-byte : (b : Bool) (x y : ℕ) (q : List ℕ) → getD (model.lineOf (record { kind = cond b xorKind andKind; fields = x ∷ y ∷ [] }) ++ q) 1 0 ≡ cond b 51 50
-unfolding model.lineOf model.hex
-kind-byte true x y q = refl
-kind-byte false x y q = refl
+-- the second byte of a gate's line tells AND from XOR: the last digit of the kind is 3 or 2, and one byte spells each
+kind-byte : (c : Bool) (b : ℕ) → isDigit b ≡ true → digitValue b ≡ cond c xorKind andKind % 16 → b ≡ cond c 51 50
+kind-byte true b h v = omega (arith, v, decimal-byte b h (omega (arith, v)))
+kind-byte false b h v = omega (arith, v, decimal-byte b h (omega (arith, v)))
 
 module _ (text : List ℕ) (at : ℕ) {n : Netlist} (s : Stands (drop at text) n) (k : ℕ) (h : k < length (n .gates)) where
   op-byte : getD text (at + headerBytes + gateBytes * k + 1) 0 ≡ cond (isXor (getD (n .gates) k noGate .op)) 51 50
   op-byte =
-      let g : nets.Gate = getD (n .gates) k noGate in
-      let q = gate-stands s k noGate h in
-      let e : at + headerBytes + gateBytes * k ≡ at + (headerBytes + gateBytes * k) = omega arith in
-      sym (getD-drop (at + headerBytes + gateBytes * k) text 1 0)
-      ∙ rw (e, ← drop-drop (headerBytes + gateBytes * k) at text, q .1) (kind-byte (isXor (g .op)) (g .x) (g .y) (q .0))
+      let place : ℕ = at + headerBytes + gateBytes * k in
+      let r = gate-place text at s k h in
+      let b = kind-read (drop place text) 1 (gateFrame (getD (n .gates) k noGate)) (r .2) (r .3) in
+      sym (getD-drop place text 1 0) ∙ kind-byte (isXor (getD (n .gates) k noGate .op)) (getD (drop place text) 1 0) (b .0) (b .1)
 
   pub op-there : length text ≤ at + headerBytes + gateBytes * k + 1 → ⊥
   op-there l = go (isXor (getD (n .gates) k noGate .op)) (sym (List·getD-eq-default text 0 l) ∙ op-byte)
