@@ -1,6 +1,6 @@
 -- Laws of lines: how the lines of a text begin, by the run of digits at its start, and the four ways in which reading at a cursor ends.
 -- The argument is by induction over the bytes: a digit before a line becomes its first digit, and a line that is faulty stays so.
-use Prim.Native.Nat.{ℕ, suc, _+_, _-_, _<_, _≤_}
+use Prim.Native.Nat.{ℕ, suc, _+_, _<_, _≤_}
 use mathlib.Core.Path.{_≡_, refl, sym, _∙_}
 use mathlib.Core.List.{List, [], _∷_}
 use mathlib.Core.Bool.{Bool, true, false, cond}

@@ -4,7 +4,6 @@ use mathlib.Core.Path.{_≡_}
 use mathlib.Core.Bool.{Bool, true, false}
 use mathlib.Core.List.{List}
 use lib.ListN.{length, take, drop, getD}
-use Rattle.model.specs.Answers.{Answer}
 use Rattle.model.specs.Answers.Answer.{refused}
 use Rattle.model.specs.Lines.{lineFeed, lines}
 use Rattle.model.specs.Frames.{oneByte, decode}

@@ -8,7 +8,6 @@ use digits::read::NO_WORD;
 use digits::read::byte_at;
 use digits::read::triple_at;
 use digits::read::word_at;
-ghost use mathlib.Core.Path.{_≡_};
 ghost use Prim.Native.Nat.{_<_, _≤_};
 ghost use lib.ListN.{length};
 ghost use Rattle.model.specs.Frames.{headerKind, outputKind, resolveKind, reportKind};

@@ -2,11 +2,12 @@
 -- w, below 16 ^ w: such a frame is proper. Its line has the two digits of the kind and then the w digits of each field; cut at the same
 -- widths they give kind and fields again, so what is written is read. The other way round, digits that are read as a frame are as many as
 -- the widths of its kind ask for, each field is the number of its w digits, and that number is below 16 ^ w and has just those digits. So
--- what is read is proper, and written again it is the same bytes: a frame has one line, and a line one frame.
+-- what is read is proper, its line has as many bytes as its kind gives, and written again it is the same bytes: a frame has one line, and a
+-- line one frame.
 use Prim.Native.Nat.{ℕ, zero, suc, _+_, _^_, _≤_, _<_}
-use mathlib.Core.Path.{_≡_, refl, sym, ap, _∙_}
+use mathlib.Core.Path.{_≡_, refl, sym, ap, _∙_, subst}
 use mathlib.Core.Bool.{Bool, true, false, _&&_, true≢false}
-use mathlib.Core.List.{List, [], _∷_, _++_, map, append-nil, map-append}
+use mathlib.Core.List.{List, [], _∷_, _++_, map, append-nil, append-assoc, map-append}
 use native.Mathlib.Omega.{arith}
 use lib.ListN.{length, getD, take, drop, length-append, length-drop, length-map, take-append-drop}
 use lib.Seq.{append-snoc, take-at, drop-at, length-take-le, take-append-seam}
@@ -21,7 +22,7 @@ use Rattle.model.specs.Frames.{Frame, headerKind, andKind, xorKind, outputKind,
 use Rattle.laws.specs.Bools.{both, by-cond}
 use Rattle.laws.specs.Answers.{ok-injective, refused-not-ok, guard-ok, bind-ok}
 use Rattle.laws.specs.Lines.{prepend-some}
-use Rattle.laws.specs.Digits.{AllDigits, line-of-bytes, bytes-of-line, digitsOf, hex-digits, all-append, all-digitsOf, length-digitsOf, number-digitsOf, digits-number}
+use Rattle.laws.specs.Digits.{AllDigits, line-of-bytes, all-spelt, Begins, bytes-of-line, line-end, digitsOf, hex-digits, all-append, all-digitsOf, length-digitsOf, number-digitsOf, digits-number}
 
 -- ---- fields
 
@@ -193,26 +194,73 @@ lone-written f p =
     let alone : lines (lineOf f) ≡ r .0 ∷ [] = rw append-nil at (r .1) in
     rw (alone, r .2 1)
 
+-- the lines of frames, one behind the other
+unfoldable pub textOf : List Frame → List ℕ
+textOf [] = []
+textOf (f ∷ fs) = lineOf f ++ textOf fs
+
+-- frames put behind frames
+pub text-append : (fs gs : List Frame) → textOf (fs ++ gs) ≡ textOf fs ++ textOf gs
+unfolding textOf
+text-append [] gs = refl
+text-append (f ∷ fs) gs = rw (text-append fs gs, append-assoc)
+
+-- ---- reading
+
+-- the bytes of a frame's line, the LF included: its kind gives them
+abbrev pub lineBytes : Frame → ℕ
+lineBytes f = oneByte + total (widths (f .kind)) + 1
+
+length-frameDigits : (f : Frame) → length (f .fields) ≡ length (widths (f .kind)) → length (frameDigits f) + 1 ≡ lineBytes f
+length-frameDigits f n = rw (length-append, length-digitsOf oneByte (f .kind), length-fieldDigits (widths (f .kind)) (f .fields) n)
+
+-- a line that is read has the digits of its frame, however they are spelt, and the frame is proper
+digits-read : (l : Line) (line : ℕ) (f : Frame) {t : List ℕ} {ls : List Line} → lines t ≡ l ∷ ls → frameAt l line ≡ ok f
+    → Proper f × (l ≡ digits (frameDigits f)) × Begins t (frameDigits f) ls
+unfolding frameAt
+digits-read (digits ds) line f {t} {ls} first read =
+    let b = bytes-of-line t ds ls first in
+    let d = decode-proper ds line f (subst AllDigits (b .values) (all-spelt (b .word) (b .spelt) .0)) read in
+    (d .0, ap digits (sym (d .1)), subst (λ (es : List ℕ). Begins t es ls) (sym (d .1)) b)
+digits-read faulty line f first read = absurd (refused-not-ok read)
+
+-- A text's first line that is read as a frame: there is a field for each width, the line is read so at any number, and it has as many bytes
+-- as its kind gives.
+pub record Taken (t : List ℕ) (l : Line) (ls : List Line) (f : Frame) : Type 0 where
+  pub many : length (f .fields) ≡ length (widths (f .kind))
+  pub again : (line : ℕ) → frameAt l line ≡ ok f
+  pub long : lineBytes f ≤ length t
+  pub behind : lines (drop (lineBytes f) t) ≡ ls
+
+pub line-taken : {t : List ℕ} {l : Line} {ls : List Line} (line : ℕ) (f : Frame) → lines t ≡ l ∷ ls → frameAt l line ≡ ok f → Taken t l ls f
+unfolding frameAt
+line-taken {t} {l} {ls} line f first read =
+    let d = digits-read l line f first read in
+    let many = fits-length (widths (f .kind)) (f .fields) (d .0 .fit) in
+    let n = length-frameDigits f many in
+    let e = line-end (d .2) in
+    record {
+      many = many;
+      again = λ line. rw (d .1) (decode-frame f (d .0) line);
+      long = omega (arith, n, e .0);
+      behind = subst (λ (k : ℕ). lines (drop k t) ≡ ls) n (e .1);
+    }
+
 -- ---- reading, then writing
 
 -- a text's first line that is read: the frame is proper, and its line is what the text begins with
 line-read : (t : List ℕ) (l : Line) (ls : List Line) (line : ℕ) (f : Frame) → lines t ≡ l ∷ ls → frameAt l line ≡ ok f
     → Proper f × ((q : List ℕ) × (t ≡ lineOf f ++ q) × (lines q ≡ ls))
-unfolding frameAt
-line-read t (digits ds) ls line f first read =
-    let b = bytes-of-line t ds ls first in
-    let d = decode-proper ds line f (b .areDigits) read in
-    (d .0, (b .rest, b .bytes ∙ rw (lineOf-before f (b .rest), d .1), b .behind))
-line-read t faulty ls line f first read = absurd (refused-not-ok read)
+line-read t l ls line f first read =
+    let d = digits-read l line f first read in
+    let b = d .2 in
+    let once : map digitOf (frameDigits f) ≡ b .word = rw (b .values) at (all-spelt (b .word) (b .spelt) .1) in
+    (d .0, (b .rest, b .bytes ∙ rw (lineOf-before f (b .rest), once), b .behind))
 
 -- A text whose first line is read as a frame begins with that frame's line, byte for byte, and the other lines are those of the rest.
 pub written-read : (t : List ℕ) (l : Line) (ls : List Line) (line : ℕ) (f : Frame) → lines t ≡ l ∷ ls → frameAt l line ≡ ok f
     → (q : List ℕ) × (t ≡ lineOf f ++ q) × (lines q ≡ ls)
 written-read t l ls line f first read = line-read t l ls line f first read .1
-
--- The frame that a text's first line is read as is proper.
-pub read-proper : (t : List ℕ) (l : Line) (ls : List Line) (line : ℕ) (f : Frame) → lines t ≡ l ∷ ls → frameAt l line ≡ ok f → Proper f
-read-proper t l ls line f first read = line-read t l ls line f first read .0
 
 -- only the empty text has no lines
 pub no-lines : (t : List ℕ) → lines t ≡ [] → t ≡ []
@@ -254,17 +302,9 @@ lone-proper t f e = lone-both t f e .0
 
 -- ---- through the buffer
 
--- A line's length is that of its kind, its fields and the LF, if there is a field for each width.
-pub line-length : (f : Frame) → length (f .fields) ≡ length (widths (f .kind)) → length (lineOf f) ≡ oneByte + total (widths (f .kind)) + 1
-line-length f n =
-    rw (
-      lineOf-digits f,
-      length-append,
-      length-map,
-      length-append,
-      length-digitsOf oneByte (f .kind),
-      length-fieldDigits (widths (f .kind)) (f .fields) n,
-    )
+-- A frame's line has these bytes, if there is a field for each width.
+pub line-length : (f : Frame) → length (f .fields) ≡ length (widths (f .kind)) → length (lineOf f) ≡ lineBytes f
+line-length f n = rw (lineOf-digits f, length-append, length-map) (length-frameDigits f n)
 
 -- A proper frame that is written into a buffer is read back from it: from the bytes that the answer counts.
 pub buffer-read : (f : Frame) (room n : ℕ) → Proper f → writeFrame f room ≡ ok n → loneLine (take n (writtenFrame f room)) ≡ ok f

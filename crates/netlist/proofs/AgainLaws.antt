@@ -3,13 +3,12 @@
 use Prim.Native.Nat.{ℕ, _+_, _*_, _<_, _≤_}
 use mathlib.Core.Path.{_≡_, refl, sym, ap, _∙_}
 use mathlib.Core.Bool.{Bool, true, false, cond, true≢false}
-use mathlib.Core.List.{List, [], _∷_, _++_}
+use mathlib.Core.List.{List, [], _∷_}
 use native.Mathlib.Omega.{arith}
 use types.Run.{OneOf}
 use denote.Enum.Declared.{tagOf}
-use lib.ListN.{length, drop, getD, drop-of-length-le, List·getD-eq-default}
-use lib.Seq.{drop-drop, getD-drop}
-use lib.Dec.{eqb}
+use lib.ListN.{length, drop, getD, drop-of-length-le}
+use lib.Seq.{drop-drop}
 use Rattle.model.specs.Lines as model-line
 use Rattle.model.specs.Lines.{lines}
 use Rattle.model.specs.Frames as model
@@ -18,7 +17,7 @@ use Rattle.model.specs.Nets as nets
 use Rattle.model.specs.Nets.{Netlist}
 use Rattle.model.specs.Lists.{gateOf, isGate, isOutput}
 use Rattle.laws.specs.Pairs.{isXor}
-use Rattle.laws.specs.ListText.{Stands, FirstReads, gateFrame, outputFrame, headerBytes, gateBytes, outputBytes, gate-stands, gate-frame-read, output-frame-read, gate-again}
+use Rattle.laws.specs.ListText.{Stands, FirstReads, gateFrame, outputFrame, headerBytes, gateBytes, outputBytes, gate-again}
 use Rattle.frame.proofs.Frame as frame-type
 use Rattle.frame.specs.declared.Op.{Op}
 use Rattle.frame.specs.declared.Op.the-variants.{And, Xor}
@@ -74,7 +73,7 @@ module _ (text : List ℕ) (at : ℕ) {n : Netlist} (s : Stands (drop at text) n
   pub gate-place : k < length (n .gates) → FirstReads (drop (at + headerBytes + gateBytes * k) text) 1 (gateFrame (getD (n .gates) k noGate))
   gate-place h =
       let e : at + headerBytes + gateBytes * k ≡ at + (headerBytes + gateBytes * k) = omega arith in
-      rw (e, ← drop-drop (headerBytes + gateBytes * k) at text) (gate-frame-read s k noGate h 1)
+      rw (e, ← drop-drop (headerBytes + gateBytes * k) at text) (s .gate-frame-read k noGate h 1)
 
   pub gate-is : k < length (n .gates) → {f : model.Frame} → f ≡ gateFrame (getD (n .gates) k noGate) → gateOf xorKind f ≡ getD (n .gates) k noGate
   gate-is h e = ap (gateOf xorKind) e ∙ gate-again s k noGate h
@@ -87,7 +86,7 @@ module _ (text : List ℕ) (at : ℕ) {n : Netlist} (s : Stands (drop at text) n
       → FirstReads (drop (at + headerBytes + gateBytes * gates + outputBytes * k) text) 1 (outputFrame (getD (n .outs) k 0))
   output-place gates m h =
       let e : at + headerBytes + gateBytes * gates + outputBytes * k ≡ at + (headerBytes + gateBytes * length (n .gates) + outputBytes * k) = omega arith in
-      rw (e, ← drop-drop (headerBytes + gateBytes * length (n .gates) + outputBytes * k) at text) (output-frame-read s k h 1)
+      rw (e, ← drop-drop (headerBytes + gateBytes * length (n .gates) + outputBytes * k) at text) (s .output-frame-read k h 1)
 
   pub output-only : (f : Frame) → OneOf (0 ∷ 1 ∷ 3 ∷ 4 ∷ 5 ∷ []) (tagOf frame-type.the-type f) → frameOf f ≡ outputFrame (getD (n .outs) k 0) → ⊥
   output-only f t e = true≢false (sym (ap (λ (g : model.Frame). isOutput (g .kind)) e) ∙ not-output f t)

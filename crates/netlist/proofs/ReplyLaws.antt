@@ -1,27 +1,25 @@
 -- What a reply says. One list: the text is a list with these counts, it stands there, and the counts are within the limits. Two lists: both
 -- stand where the reply has them, and the text goes on at its cursor.
-use Prim.Native.Nat.{ℕ, _+_, _≤_}
+use Prim.Native.Nat.{ℕ, _≤_}
 use mathlib.Core.Path.{_≡_, refl, sym, ap, _∙_, subst}
 use mathlib.Core.List.{List}
 use native.Mathlib.Omega.{arith}
-use lib.ListN.{length, drop, length-append}
-use lib.Seq.{drop-drop}
+use lib.ListN.{length, drop, length-drop}
 use Rattle.model.specs.Limits.{mostInputs, mostGates, mostOutputs}
 use Rattle.model.specs.Answers.{Answer, bind}
 use Rattle.model.specs.Answers.Answer.{ok, refused}
 use Rattle.model.specs.Nets.{Netlist}
-use Rattle.model.specs.Lines.{lines}
 use Rattle.model.specs.Frames.{endAt}
 use Rattle.model.specs.Lists.{readOne, Lists, ListsRead, readBoth, readLists}
 use Rattle.laws.specs.Answers.{ok-injective, refused-not-ok, bind-ok}
 use Rattle.laws.specs.Pairs as pairs
 use Rattle.laws.specs.Reading.{one-good, both-good}
-use Rattle.laws.specs.ListText.{Stands, one-stands, listText, list-length, drop-list, both-stands}
+use Rattle.laws.specs.ListText.{Stands, one-stands, listBytes, list-length, both-stands}
 use Rattle.frame.specs.Frames.{Inside}
 use Rattle.netlist.specs.declared.Counts.{Counts}
 use Rattle.netlist.specs.declared.Pair.{Pair}
 use Rattle.netlist.specs.Says.{from}
-use Rattle.netlist.specs.Replies.{counts, countsOf, bytesOf, pair, pairOf, bothOf}
+use Rattle.netlist.specs.Replies.{counts, countsOf, pair, pairOf, bothOf}
 
 -- ---- replies that are made of an answer
 
@@ -94,26 +92,18 @@ both-stand : (text : List ℕ) (r : ListsRead) → readBoth text ≡ ok r → Bo
 both-stand text r e =
     let s = both-stands text r e in
     let ab = both-good text r e in
-    let a = r .lists .left in
-    let b = r .lists .right in
-    let place : length (listText a) ≡ bytesOf (length (a .gates)) (length (a .outs)) = list-length a in
-    let bytes : length (listText b) ≡ bytesOf (length (b .gates)) (length (a .outs)) = rw (ab .outs) (list-length b) in
-    let behind : drop (length (listText a) + length (listText b)) text ≡ s .right .rest =
-    sym (drop-drop (length (listText b)) (length (listText a)) text) ∙ drop-list (s .right) in
-    let whole : length (listText a) + length (listText b) ≤ length text =
-    omega (arith, ap length (s .left .text), length-append (listText a) (s .left .rest), ap length (sym (drop-list (s .left))), ap length (s .right .text), length-append (listText b) (s .right .rest)) in
     record {
       read = r;
       reads = e;
       alike = ab;
       left-stands = s .left;
-      right-stands = rw (← place) (s .right);
+      right-stands = s .right;
       inputs = refl;
       left-gates = refl;
       right-gates = refl;
       outputs = refl;
-      inside = record { at = omega (arith, place, bytes, whole); line = omega arith };
-      rest = sym (s .behind) ∙ rw (← place, ← bytes) (ap lines (sym behind));
+      inside = record { at = omega (arith, ab .outs, list-length (s .left), list-length (s .right), length-drop (listBytes (r .lists .left)) text); line = omega arith };
+      rest = sym (rw (← (ab .outs)) at (s .behind));
       line = omega (arith, s .after, ab .outs);
     }
 
