@@ -10,7 +10,7 @@ use lib.Seq.{drop-drop}
 use borrow.Author.Tests.{eq-eqb, ne-eqb}
 use Rattle.model.specs.Lines.{isDigit, digitValue}
 use Rattle.model.specs.Frames.{number, twoBytes}
-use Rattle.frame.specs.Digits.{valueOf, values, run, numberAt}
+use Rattle.digits.specs.Digits.{valueOf, values, run, numberAt}
 use Rattle.cec_eval.specs.declared.pattern.Pattern.the-variants.{Bits, Wrong}
 use Rattle.cec_eval.specs.Program.{wordDigits, allDigits, patternOf}
 

@@ -2,7 +2,7 @@
 use evaluator::Evaluated;
 use evaluator::evaluate;
 use frame::fields::put_hex;
-use frame::report::REPORT_BYTES;
+use frame::kinds::REPORT_BYTES;
 use frame::report::report_line;
 use netlist::Refusal;
 use streams::STREAM_BYTES;

@@ -1,6 +1,6 @@
 // The argument's pattern.
-use frame::digits::digits_at;
-use frame::digits::word_at;
+use digits::read::NO_WORD;
+use digits::read::word_at;
 ghost use mathlib.Core.Path.{_≡_};
 ghost use Rattle.cec_eval.specs.Program.{patternOf};
 
@@ -18,10 +18,23 @@ pub fn pattern_of(digits: &[u8]) -> Pattern
     if digits.len() != PATTERN_DIGITS {
         return Pattern::Wrong;
     }
-    if digits_at(digits, 0) != PATTERN_DIGITS {
+    let first = word_at(digits, 0);
+    if NO_WORD <= first {
         return Pattern::Wrong;
     }
-    let high = 65536 * (word_at(digits, 0) as u64) + (word_at(digits, 4) as u64);
-    let low = 65536 * (word_at(digits, 8) as u64) + (word_at(digits, 12) as u64);
+    let second = word_at(digits, 4);
+    if NO_WORD <= second {
+        return Pattern::Wrong;
+    }
+    let third = word_at(digits, 8);
+    if NO_WORD <= third {
+        return Pattern::Wrong;
+    }
+    let fourth = word_at(digits, 12);
+    if NO_WORD <= fourth {
+        return Pattern::Wrong;
+    }
+    let high = 65536 * (first as u64) + (second as u64);
+    let low = 65536 * (third as u64) + (fourth as u64);
     Pattern::Bits(4294967296 * high + low)
 }

@@ -4,7 +4,7 @@ use derive::lines::LINE_BYTES;
 use engine::Proved;
 use engine::prove;
 use frame::Frame;
-use frame::report::REPORT_BYTES;
+use frame::kinds::REPORT_BYTES;
 use frame::write_frame;
 use netlist::Refusal;
 use streams::STREAM_BYTES;

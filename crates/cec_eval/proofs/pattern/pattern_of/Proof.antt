@@ -1,29 +1,44 @@
--- The three ways out (`PatternLaws`).
-use mathlib.Core.Path.{_∙_}
+-- Another length, a byte that is no digit in one of the four words, and 16 digits (`PatternLaws`).
+use mathlib.Core.Path.{_≡_, refl}
 use native.Mathlib.Omega.{arith}
 use denote.Ref.{now}
+use lib.ListN.{length}
+use Rattle.digits.specs.Digits.{run}
+use Rattle.digits.proofs.DigitLaws.{run-end}
 use Rattle.cec_eval.proofs.PatternLaws.{other-length, other-byte, spelled}
 use borrow.Author.Needs.{needs}
 use Rattle.cec_eval.proofs.pattern.pattern_of.Statement.{statement}
 use Rattle.cec_eval.proofs.pattern.pattern_of.Tie as tie
 use Rattle.cec_eval.proofs.pattern.pattern_of.Reads as reads
 use Rattle.cec_eval.proofs.pattern.pattern_of.Lts as lts
-use Rattle.frame.proofs.digits.digits_at.Reads as digits-at-reads
-use Rattle.frame.proofs.digits.word_at.Reads as word-at-reads
+use Rattle.digits.proofs.read.word_at.Reads as word-at-reads
 
 returns : tie.Need-returns
 returns c = other-length (now (c .before .before .args .digits)) (c .if1 .taken)
 
-digits-at-requires : tie.Need-digits-at-requires
-digits-at-requires c κs = search needs
-
-returns-2 : tie.Need-returns-2
-returns-2 c =
-    let a = c .before .before .before .before .args in
-    other-byte (now (a .digits)) (omega arith) (λ h. c .if2 .taken (c .before .digits-at .ensures .0 ∙ h))
-
 word-at-requires : tie.Need-word-at-requires
 word-at-requires c κs = search needs
+
+returns-2 : tie.Need-returns-2
+returns-2 c = other-byte (now (c .before .before .before .before .args .digits)) (omega arith) (λ h. omega (arith, h, c .before .word-at .ensures .stops (c .if2 .taken)))
+
+word-at-requires-2 : tie.Need-word-at-requires-2
+word-at-requires-2 c κs = search needs
+
+returns-3 : tie.Need-returns-3
+returns-3 c = other-byte (now (c .before .before .before .before .before .before .args .digits)) (omega arith) (λ h. omega (arith, h, c .before .before .before .word-at .ensures .goes (omega arith) 4 refl, c .before .word-at2 .ensures .stops (c .if3 .taken)))
+
+word-at-requires-3 : tie.Need-word-at-requires-3
+word-at-requires-3 c κs = search needs
+
+returns-4 : tie.Need-returns-4
+returns-4 c = other-byte (now (c .before .before .before .before .before .before .before .before .args .digits)) (omega arith) (λ h. omega (arith, h, c .before .before .before .before .before .word-at .ensures .goes (omega arith) 4 refl, c .before .before .before .word-at2 .ensures .goes (omega arith) 8 refl, c .before .word-at3 .ensures .stops (c .if4 .taken)))
+
+word-at-requires-4 : tie.Need-word-at-requires-4
+word-at-requires-4 c κs = search needs
+
+returns-5 : tie.Need-returns-5
+returns-5 c = other-byte (now (c .before .before .before .before .before .before .before .before .before .before .args .digits)) (omega arith) (λ h. omega (arith, h, c .before .before .before .before .before .before .before .word-at .ensures .goes (omega arith) 4 refl, c .before .before .before .before .before .word-at2 .ensures .goes (omega arith) 8 refl, c .before .before .before .word-at3 .ensures .goes (omega arith) 12 refl, c .before .word-at4 .ensures .stops (c .if5 .taken)))
 
 cast-high : tie.Need-cast-high
 cast-high c = search needs
@@ -31,26 +46,17 @@ cast-high c = search needs
 mul-high : tie.Need-mul-high
 mul-high c = search needs
 
-word-at-requires-2 : tie.Need-word-at-requires-2
-word-at-requires-2 c κs = search needs
-
 cast-high-2 : tie.Need-cast-high-2
 cast-high-2 c = search needs
 
 add-high : tie.Need-add-high
 add-high c = search needs
 
-word-at-requires-3 : tie.Need-word-at-requires-3
-word-at-requires-3 c κs = search needs
-
 cast-low : tie.Need-cast-low
 cast-low c = search needs
 
 mul-low : tie.Need-mul-low
 mul-low c = search needs
-
-word-at-requires-4 : tie.Need-word-at-requires-4
-word-at-requires-4 c κs = search needs
 
 cast-low-2 : tie.Need-cast-low-2
 cast-low-2 c = search needs
@@ -61,33 +67,41 @@ add-low c = search needs
 mul-t10 : tie.Need-mul-t10
 mul-t10 c = search needs
 
-add-t8 : tie.Need-add-t8
-add-t8 c = search needs
+add-t11 : tie.Need-add-t11
+add-t11 c = search needs
 
-returns-3 : tie.Need-returns-3
-returns-3 c =
-    let a = c .before .before .before .before .before .before .before .before .args in
-    spelled (now (a .digits)) (omega arith) (omega arith) _ _ _ _ (c .before .before .before .word-at .ensures) (c .before .before .word-at2 .ensures) (c .before .word-at3 .ensures) (c .word-at4 .ensures)
+returns-6 : tie.Need-returns-6
+returns-6 c =
+    let l = now (c .before .before .before .before .before .before .before .before .before .before .args .digits) in
+    let w = c .before .before .before .before .before .before .before .word-at .ensures in
+    let x = c .before .before .before .before .before .word-at2 .ensures in
+    let y = c .before .before .before .word-at3 .ensures in
+    let z = c .before .word-at4 .ensures in
+    let e : length l ≡ 16 = omega arith in
+    let all : run l ≡ 16 = omega (arith, w .goes (omega arith) 4 refl, x .goes (omega arith) 8 refl, y .goes (omega arith) 12 refl, z .goes (omega arith) 16 refl, run-end l 16 (omega arith)) in
+    spelled l e all _ _ _ _ (w .number (omega arith)) (x .number (omega arith)) (y .number (omega arith)) (z .number (omega arith))
 
 pub pattern-of-spec : {M : Type 1} → statement M
 pattern-of-spec =
     tie.close
     (tie.spec
     returns
-    digits-at-requires
-    returns-2
     word-at-requires
+    returns-2
+    word-at-requires-2
+    returns-3
+    word-at-requires-3
+    returns-4
+    word-at-requires-4
+    returns-5
     cast-high
     mul-high
-    word-at-requires-2
     cast-high-2
     add-high
-    word-at-requires-3
     cast-low
     mul-low
-    word-at-requires-4
     cast-low-2
     add-low
     mul-t10
-    add-t8
-    returns-3)
+    add-t11
+    returns-6)
