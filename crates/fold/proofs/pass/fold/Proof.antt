@@ -5,7 +5,7 @@ use native.Mathlib.Omega.{arith}
 use denote.Ref.{now}
 use lib.ListN.{length}
 use Rattle.model.specs.Miter.{gatesOf}
-use Rattle.table.specs.Rows.{entryOf, Holds}
+use Rattle.table.specs.Rows.{entryOf, HoldsTable}
 use Rattle.table.specs.Buckets.{Indexed}
 use Rattle.miter.specs.Miters.{Lists}
 use Rattle.laws.specs.MiterOrder.{length-gates}
@@ -99,7 +99,7 @@ same-length c =
 returns : tie.Need-returns Inv-loop μ-loop
 returns c w =
     let l = c .before .loop in
-    subst (Holds (l .work))
+    subst (HoldsTable (l .work))
     (after-all (w .left .inputs) (gatesOf (w .left) (w .right)) (l .k) (omega (arith, length-gates (w .left) (w .right) (w .alike), w .left-gates, w .right-gates)))
     (l .inv .2 w .rows)
 
