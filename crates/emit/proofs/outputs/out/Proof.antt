@@ -90,7 +90,8 @@ resolve-on-requires : tie.Need-resolve-on-requires
 resolve-on-requires c κs =
     let fourth = c .before .before .before in
     let first = fourth .before .before .before .before .before .before in
-    let room = first .before .before .before .before .before .before .before .before .before .before .before .pre .0 in
+    let rep = first .before .before .before .before .before .before in
+    let room = rep .before .before .before .before .before .pre .0 in
     let few = first .subst22 .ensures .0 in
     let more = fourth .subst23 .ensures .0 in
     record {

@@ -1,5 +1,6 @@
 -- Test by test as the definition's cases (`OperandLaws`).
-use mathlib.Core.Path.{sym, _∙_}
+use mathlib.Core.Path.{sym, ap, _∙_}
+use Rattle.fold_laws.specs.Cases.Made.{is}
 use Rattle.fold.proofs.OperandLaws.{and-nil, and-true, and-same, and-opposite, and-key}
 use borrow.Author.Needs.{needs}
 use Rattle.fold.proofs.operands.and_ordered.Statement.{statement}
@@ -32,8 +33,8 @@ returns-4 c =
     let third = complemented .before in
     let second = third .before .before .before in
     let first = second .before .before in
-    rw (c .of .ensures)
-    (and-opposite _ _ (first .if1 .left) (second .if2 .left) (third .if3 .left) (c .before .if4 .taken ∙ complemented .complement .ensures))
+    ap is (c .of .ensures)
+    ∙ and-opposite _ _ (first .if1 .left) (second .if2 .left) (third .if3 .left) (c .before .if4 .taken ∙ complemented .complement .ensures)
 
 returns-5 : tie.Need-returns-5
 returns-5 c =
