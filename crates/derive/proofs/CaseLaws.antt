@@ -16,10 +16,10 @@ use Rattle.fold_laws.specs.Table.{Entry, repOf}
 use Rattle.fold_laws.specs.Facts.{stands-below}
 use Rattle.emit_laws.specs.Trees.{Tree}
 use Rattle.emit_laws.specs.Gates.{linkOf, trees}
-use Rattle.table.specs.Rows.{Holds}
+use Rattle.table.specs.Rows.{HoldsTable}
 use Rattle.derive.specs.declared.lines.Derived.{Derived}
-use Rattle.derive.specs.declared.kept.Kept.{Kept}
-use Rattle.derive.specs.declared.gates.Defined.{Defined}
+use Rattle.derive.specs.declared.gates.DerivedGate.{DerivedGate}
+use Rattle.derive.specs.declared.gates.DefinedGate.{DefinedGate}
 use Rattle.derive.specs.Emission.{EmitsAll}
 use Rattle.derive.specs.Known.{Known, Next, literalsOf, numbersOf, keptOf}
 use Rattle.derive.specs.Parts.{andCaseTrees, xorCaseTrees}
@@ -27,18 +27,18 @@ use Rattle.derive.specs.Parts.{andCaseTrees, xorCaseTrees}
 -- ---- the tests
 
 module _ (p q : ℕ) where
-  pub and-nil : p ≡ 0 → andCase p q ≡ nil
+  pub and-false : p ≡ 0 → andCase p q ≡ nil
   unfolding andCase
-  and-nil e = rw (eq-eqb p 0 e)
+  and-false e = rw (eq-eqb p 0 e)
 
   module _ (z : p ≡ 0 → ⊥) where
     pub and-pass : eqb p 1 || eqb p q ≡ true → andCase p q ≡ pass
     unfolding andCase
     and-pass e = rw (ne-eqb p 0 z, e)
 
-    pub and-opp : (p ≡ 1 → ⊥) → eqb p q ≡ false → p ≡ neg q → andCase p q ≡ opp
+    pub and-opposite : (p ≡ 1 → ⊥) → eqb p q ≡ false → p ≡ neg q → andCase p q ≡ opp
     unfolding andCase
-    and-opp o d e = rw (ne-eqb p 0 z, ne-eqb p 1 o, d, eq-eqb p (neg q) e)
+    and-opposite o d e = rw (ne-eqb p 0 z, ne-eqb p 1 o, d, eq-eqb p (neg q) e)
 
     pub and-pair : (p ≡ 1 → ⊥) → eqb p q ≡ false → (p ≡ neg q → ⊥) → andCase p q ≡ pair
     unfolding andCase
@@ -59,16 +59,16 @@ module _ (p q : ℕ) where
 -- ---- the trees of the case
 
 -- for every table and all clause numbers that the working numbers stand for
-abbrev Always : List ℕ → ℕ → Defined → (List Entry → List (List ℕ) → Type 0) → Type 0
+abbrev Always : List ℕ → ℕ → DefinedGate → (List Entry → List (List ℕ) → Type 0) → Type 0
 Always work start d P = (t : List Entry) (links : List (List ℕ)) → Known work start t links → Next t links (literalsOf d) → P t links
 
 -- a gate's trees, of an XOR where o
-abbrev gateTrees : Bool → Defined → List Entry → List (List ℕ) → List Tree
-gateTrees o d t links = trees (repOf t) (linkOf links) o (literalsOf d) (numbersOf d) (keptOf t links (d .n))
+abbrev gateTrees : Bool → DefinedGate → List Entry → List (List ℕ) → List Tree
+gateTrees o d t links = trees (repOf t) (linkOf links) o (literalsOf d) (numbersOf d) (keptOf t links (d .n .code))
 
-module _ (d : Defined) {work : List ℕ} {start p q : ℕ} {f g : List ℕ} {s : Derived} {k : Kept}
-    (x : (t : List Entry) → Holds work t → netOf (d .x) < length t → p ≡ repOf t (d .x))
-    (y : (t : List Entry) → Holds work t → netOf (d .y) < length t → q ≡ repOf t (d .y)) where
+module _ (d : DefinedGate) {work : List ℕ} {start p q : ℕ} {f g : List ℕ} {s : Derived} {k : DerivedGate}
+    (x : (t : List Entry) → HoldsTable work t → netOf (d .x .code) < length t → p ≡ repOf t (d .x .code))
+    (y : (t : List Entry) → HoldsTable work t → netOf (d .y .code) < length t → q ≡ repOf t (d .y .code)) where
   pub and-case : {c : AndCase} → andCase p q ≡ c → Always work start d (λ t links. EmitsAll f s g k (andCaseTrees t links c d))
       → Always work start d (λ t links. EmitsAll f s g k (gateTrees false d t links))
   unfolding trees
@@ -80,6 +80,6 @@ module _ (d : Defined) {work : List ℕ} {start p q : ℕ} {f g : List ℕ} {s :
   xor-case e m t links a h = rw (← x t (a .rows) (omega arith), ← y t (a .rows) (omega arith), e) (m t links a h)
 
 -- the net that a gate stands for, if it is another, is done
-pub hit-done : {work : List ℕ} {start : ℕ} {t : List Entry} {links : List (List ℕ)} (d : Defined) → Known work start t links → Next t links (literalsOf d)
-    → (repOf t (d .n) ≡ d .n → ⊥) → netOf (repOf t (d .n)) < length links
-hit-done d k h e = omega (arith, stands-below (k .laws) (d .n) (omega arith) e)
+pub hit-done : {work : List ℕ} {start : ℕ} {t : List Entry} {links : List (List ℕ)} (d : DefinedGate) → Known work start t links → Next t links (literalsOf d)
+    → (repOf t (d .n .code) ≡ d .n .code → ⊥) → netOf (repOf t (d .n .code)) < length links
+hit-done d k h e = omega (arith, stands-below (k .laws) (d .n .code) (omega arith) e)

@@ -14,8 +14,8 @@ use Rattle.emit_laws.specs.Trees.{Tree, size, lay, length-lay, sizes, nums, lay
 use Rattle.emit_laws.specs.Trees.Tree.{old, cut}
 use Rattle.emit_laws.specs.Stepwise.{Then}
 use Rattle.derive.specs.declared.lines.Derived.{Derived}
-use Rattle.derive.specs.declared.kept.Kept.{Kept}
-use Rattle.derive.specs.Emission.{Written, Room, Few, FewKept, Emits, EmitsAll}
+use Rattle.derive.specs.declared.gates.DerivedGate.{DerivedGate}
+use Rattle.derive.specs.Emission.{Written, Room, Few, FewGate, Emits, EmitsAll}
 
 -- ---- at most so many lines
 
@@ -26,11 +26,11 @@ few-old e = rw e (record { lines = omega arith; clauses = omega arith })
 pub few-then : {s a r : Derived} {m n : ℕ} → Few s m a → Few a n r → Few s (m + n) r
 few-then f g = record { lines = omega (arith, f .lines, g .lines); clauses = omega (arith, f .clauses, g .clauses) }
 
-pub few-kept : {s r : Derived} {n : ℕ} {k : Kept} {linked : Bool} {ns : List ℕ} → Few s n r
-    → k ≡ record { lines = r .lines; clauses = r .clauses; linked = linked; numbers = ns } → FewKept s n k
-few-kept f e = rw e (record { lines = f .lines; clauses = f .clauses })
+pub few-gate : {s r : Derived} {n : ℕ} {k : DerivedGate} {linked : Bool} {ns : List ℕ} → Few s n r
+    → k ≡ record { lines = r .lines; clauses = r .clauses; linked = linked; numbers = ns } → FewGate s n k
+few-gate f e = rw e (record { lines = f .lines; clauses = f .clauses })
 
-pub few-more : {s : Derived} {n m : ℕ} {k : Kept} → FewKept s n k → n ≤ m → FewKept s m k
+pub few-more : {s : Derived} {n m : ℕ} {k : DerivedGate} → FewGate s n k → n ≤ m → FewGate s m k
 few-more f h = record { lines = omega (arith, f .lines); clauses = omega (arith, f .clauses) }
 
 -- the room that is left, in as many bytes
@@ -129,11 +129,11 @@ then {m = m} {s = s} {a} {t = t} {ts} f g =
     }
 
 -- what is kept of them
-pub emits-all : {p q : List ℕ} {s r : Derived} {ts : List Tree} {ns : List ℕ} {k : Kept} → Run p s q r ts ns
+pub emits-all : {p q : List ℕ} {s r : Derived} {ts : List Tree} {ns : List ℕ} {k : DerivedGate} → Run p s q r ts ns
     → k ≡ record { lines = r .lines; clauses = r .clauses; linked = eqb (length ts) 2; numbers = filled linkWidth ns } → EmitsAll p s q k ts
 emits-all f e =
     rw e (record { written = f .written; lines = f .lines; clauses = f .clauses; numbers = ap (filled linkWidth) (f .numbers); linked = refl })
 
-pub emits-two : {p q m : List ℕ} {s a b : Derived} {t u : Tree} {k : Kept} → Emits p s q a t → Emits q a m b u
+pub emits-two : {p q m : List ℕ} {s a b : Derived} {t u : Tree} {k : DerivedGate} → Emits p s q a t → Emits q a m b u
     → k ≡ record { lines = b .lines; clauses = b .clauses; linked = true; numbers = a .clause ∷ b .clause ∷ 0 ∷ 0 ∷ [] } → EmitsAll p s m k (t ∷ u ∷ [])
 emits-two f g e = emits-all (then f (then g none)) e

@@ -11,7 +11,7 @@ use Rattle.emit_laws.specs.Trees.{Tree, size, num, lay, sizes, nums, lays}
 use Rattle.emit_laws.specs.Text.{proofText}
 use Rattle.table.specs.Links.{linkWidth}
 use Rattle.derive.specs.declared.lines.Derived.{Derived}
-use Rattle.derive.specs.declared.kept.Kept.{Kept}
+use Rattle.derive.specs.declared.gates.DerivedGate.{DerivedGate}
 
 -- the proof bytes are these lines, with zeros behind
 abbrev pub Written : List ℕ → List Resolution → Type 0
@@ -37,12 +37,12 @@ pub record Emits (p : List ℕ) (s : Derived) (q : List ℕ) (r : Derived) (t : 
 
 -- ---- a gate's trees
 
-pub record FewKept (at : Derived) (more : ℕ) (r : Kept) : Type 0 where
+pub record FewGate (at : Derived) (more : ℕ) (r : DerivedGate) : Type 0 where
   pub lines : r .lines ≤ at .lines + more
   pub clauses : r .clauses ≤ at .clauses + more
 
 -- the same of some trees one after the other, and the numbers of their clauses; two are links
-pub record EmitsAll (p : List ℕ) (s : Derived) (q : List ℕ) (r : Kept) (ts : List Tree) : Type 0 where
+pub record EmitsAll (p : List ℕ) (s : Derived) (q : List ℕ) (r : DerivedGate) (ts : List Tree) : Type 0 where
   pub written : (rs : List Resolution) → Written p rs → length rs ≡ s .lines → Written q (rs ++ lays (s .clauses) ts)
   pub lines : r .lines ≡ s .lines + sizes ts
   pub clauses : r .clauses ≡ s .clauses + sizes ts

@@ -7,13 +7,13 @@ use Rattle.model.specs.Nets.{netOf}
 use Rattle.fold_laws.specs.Table.{Entry, repOf}
 use Rattle.fold_laws.specs.Facts.{Laws}
 use Rattle.emit_laws.specs.Gates.{Literals, ClauseNumbers}
-use Rattle.table.specs.Rows.{rowWidth, Holds}
+use Rattle.table.specs.Rows.{rowWidth, HoldsTable}
 use Rattle.table.specs.Links.{Keeps}
-use Rattle.derive.specs.declared.gates.Defined.{Defined}
+use Rattle.derive.specs.declared.gates.DefinedGate.{DefinedGate}
 
 -- the working numbers hold the whole table t, and from start on the numbers of clauses of the nets done
 pub record Known (work : List ℕ) (start : ℕ) (t : List Entry) (links : List (List ℕ)) : Type 0 where
-  pub rows : Holds work t
+  pub rows : HoldsTable work t
   pub behind-rows : rowWidth * length t ≤ start
   pub numbers : Keeps work start links
   pub nets : length links ≤ length t
@@ -21,10 +21,10 @@ pub record Known (work : List ℕ) (start : ℕ) (t : List Entry) (links : List 
 
 -- ---- a gate
 
-abbrev pub literalsOf : Defined → Literals
-literalsOf d = record { n = d .n; x = d .x; y = d .y }
+abbrev pub literalsOf : DefinedGate → Literals
+literalsOf d = record { n = d .n .code; x = d .x .code; y = d .y .code }
 
-abbrev pub numbersOf : Defined → ClauseNumbers
+abbrev pub numbersOf : DefinedGate → ClauseNumbers
 numbersOf d = record { a = d .a; b = d .b; c = d .c; d = d .d }
 
 -- the gate of the next net, which reads nets that are done

@@ -10,7 +10,7 @@ use Rattle.emit_laws.specs.Trees.Tree.{old}
 use Rattle.emit_laws.specs.Subst.{subst2, implyAnd, implyXor}
 use Rattle.emit_laws.specs.CaseTrees.{leaf, andTrees, xorTrees}
 use Rattle.emit_laws.specs.Gates.{linkOf}
-use Rattle.derive.specs.declared.gates.Defined.{Defined}
+use Rattle.derive.specs.declared.gates.DefinedGate.{DefinedGate}
 use Rattle.derive.specs.Known.{keptOf}
 
 module _ (t : List Entry) (links : List (List ℕ)) where
@@ -20,31 +20,31 @@ module _ (t : List Entry) (links : List (List ℕ)) where
 
   -- ---- an AND
 
-  abbrev pub andCaseTrees : AndCase → Defined → List Tree
-  andCaseTrees k d = andTrees (repOf t) (linkOf links) k (d .n) (d .x) (d .y) (old (d .a)) (old (d .b)) (old (d .c)) (keptOf t links (d .n))
+  abbrev pub andCaseTrees : AndCase → DefinedGate → List Tree
+  andCaseTrees k d = andTrees (repOf t) (linkOf links) k (d .n .code) (d .x .code) (d .y .code) (old (d .a)) (old (d .b)) (old (d .c)) (keptOf t links (d .n .code))
 
-  abbrev pub andOwn : Defined → List Tree
-  andOwn d = over (d .a) (d .x) (d .x) ∷ over (d .b) (d .y) (d .y) ∷ over (d .c) (neg (d .x)) (neg (d .y)) ∷ []
+  abbrev pub andOwn : DefinedGate → List Tree
+  andOwn d = over (d .a) (d .x .code) (d .x .code) ∷ over (d .b) (d .y .code) (d .y .code) ∷ over (d .c) (neg (d .x .code)) (neg (d .y .code)) ∷ []
 
-  abbrev pub andDown : Defined → List ℕ → Tree
-  andDown d D = implyAnd (over (d .a) (d .x) (d .x)) (over (d .b) (d .y) (d .y)) (leaf D 2) (repOf t (d .x)) (repOf t (d .y))
+  abbrev pub andDown : DefinedGate → List ℕ → Tree
+  andDown d D = implyAnd (over (d .a) (d .x .code) (d .x .code)) (over (d .b) (d .y .code) (d .y .code)) (leaf D 2) (repOf t (d .x .code)) (repOf t (d .y .code))
 
-  abbrev pub andUp : Defined → List ℕ → Tree
-  andUp d D = implyAnd (leaf D 0) (leaf D 1) (over (d .c) (neg (d .x)) (neg (d .y))) (repOf t (d .x)) (repOf t (d .y))
+  abbrev pub andUp : DefinedGate → List ℕ → Tree
+  andUp d D = implyAnd (leaf D 0) (leaf D 1) (over (d .c) (neg (d .x .code)) (neg (d .y .code))) (repOf t (d .x .code)) (repOf t (d .y .code))
 
   -- ---- an XOR
 
-  abbrev pub xorCaseTrees : XorCase → Defined → List Tree
-  xorCaseTrees k d = xorTrees (repOf t) (linkOf links) k (d .n) (d .x) (d .y) (old (d .a)) (old (d .b)) (old (d .c)) (old (d .d)) (keptOf t links (d .n))
+  abbrev pub xorCaseTrees : XorCase → DefinedGate → List Tree
+  xorCaseTrees k d = xorTrees (repOf t) (linkOf links) k (d .n .code) (d .x .code) (d .y .code) (old (d .a)) (old (d .b)) (old (d .c)) (old (d .d)) (keptOf t links (d .n .code))
 
-  abbrev pub xorOwn : Defined → List Tree
+  abbrev pub xorOwn : DefinedGate → List Tree
   xorOwn d =
-      over (d .a) (d .x) (d .y) ∷ over (d .b) (d .x) (neg (d .y)) ∷ over (d .c) (neg (d .x)) (d .y) ∷ over (d .d) (neg (d .x)) (neg (d .y)) ∷ []
+      over (d .a) (d .x .code) (d .y .code) ∷ over (d .b) (d .x .code) (neg (d .y .code)) ∷ over (d .c) (neg (d .x .code)) (d .y .code) ∷ over (d .d) (neg (d .x .code)) (neg (d .y .code)) ∷ []
 
-  abbrev pub xorDown : Defined → List ℕ → Tree
+  abbrev pub xorDown : DefinedGate → List ℕ → Tree
   xorDown d D =
-      implyXor (over (d .a) (d .x) (d .y)) (over (d .d) (neg (d .x)) (neg (d .y))) (leaf D 1) (leaf D 2) (repOf t (d .x)) (repOf t (d .y))
+      implyXor (over (d .a) (d .x .code) (d .y .code)) (over (d .d) (neg (d .x .code)) (neg (d .y .code))) (leaf D 1) (leaf D 2) (repOf t (d .x .code)) (repOf t (d .y .code))
 
-  abbrev pub xorUp : Defined → List ℕ → Tree
+  abbrev pub xorUp : DefinedGate → List ℕ → Tree
   xorUp d D =
-      implyXor (leaf D 0) (leaf D 3) (over (d .b) (d .x) (neg (d .y))) (over (d .c) (neg (d .x)) (d .y)) (repOf t (d .x)) (repOf t (d .y))
+      implyXor (leaf D 0) (leaf D 3) (over (d .b) (d .x .code) (neg (d .y .code))) (over (d .c) (neg (d .x .code)) (d .y .code)) (repOf t (d .x .code)) (repOf t (d .y .code))

@@ -1,10 +1,11 @@
 // One line of the proof: a resolution, written behind those before it.
+use literal::Literal;
 use words::write::write_resolve;
 ghost use mathlib.Core.Path.{_≡_};
 ghost use lib.ListN.{length};
 ghost use Rattle.words.specs.Words.{resolve};
 ghost use Rattle.emit_laws.specs.Fields as model;
-ghost use Rattle.emit_laws.specs.Replay.{pivot};
+ghost use Rattle.emit_laws.specs.Replay as replay;
 ghost use Rattle.emit_laws.specs.Trees.Tree.{old, cut as cutTree};
 ghost use Rattle.derive.specs.Emission.{Room, Few, Emits};
 
@@ -35,12 +36,12 @@ pub struct Resolve {
     pub variable: u16,
 }
 
-// The resolution of clause a, which holds l, and clause b, which holds its complement.
-fn resolution(a: u16, b: u16, l: u16) -> Resolve
-    ensures { λ r. ⌜ resolve (r .first) (r .second) (r .variable) ≡ model.frameOf (pivot a b l) ⌝ }
+// The resolution of clause a, which holds the pivot, and clause b, which holds its complement.
+fn resolution(a: u16, b: u16, pivot: Literal) -> Resolve
+    ensures { λ r. ⌜ resolve (r .first) (r .second) (r .variable) ≡ model.frameOf (replay.pivot a b (pivot .code)) ⌝ }
 {
-    let variable = l / 2;
-    if l % 2 == 1 {
+    let variable = pivot.variable();
+    if pivot.sign() == 1 {
         return Resolve {
             first: b,
             second: a,
@@ -54,13 +55,13 @@ fn resolution(a: u16, b: u16, l: u16) -> Resolve
     }
 }
 
-// One line more, and its clause.
-pub fn cut(proof: &mut [u8], at: Derived, a: u16, b: u16, l: u16) -> Derived
+// One line more, the resolution on this pivot, and its clause.
+pub fn resolve_on(proof: &mut [u8], at: Derived, a: u16, b: u16, pivot: Literal) -> Derived
     requires { ⌜ Room (length (now proof)) at 1 ⌝ }
     ensures few { λ r. ⌜ Few at 1 r ⌝ }
-    ensures emits { λ r. ⌜ Emits (now (proof .entry)) at (now (proof .exit)) r (cutTree (old a) (old b) l) ⌝ }
+    ensures emits { λ r. ⌜ Emits (now (proof .entry)) at (now (proof .exit)) r (cutTree (old a) (old b) (pivot .code)) ⌝ }
 {
-    let step = resolution(a, b, l);
+    let step = resolution(a, b, pivot);
     write_resolve(
         proof,
         LINE_BYTES * at.lines,

@@ -26,19 +26,19 @@ use Rattle.emit_laws.specs.Place.{clauseCount, behind, firstZClause, lastNumber
 use Rattle.emit_laws.specs.Loop.{slots, from, gateTrees, sign, loop}
 use Rattle.emit_laws.specs.Emit.{startLinks, gateLines, lastTree, emit}
 use Rattle.netlist.specs.Again.{noGate}
-use Rattle.table.specs.Rows.{rowWidth, Holds}
+use Rattle.table.specs.Rows.{rowWidth, HoldsTable}
 use Rattle.table.specs.Links.{linkWidth, Keeps}
-use Rattle.derive.specs.declared.gates.Defined.{Defined}
+use Rattle.derive.specs.declared.gates.DefinedGate.{DefinedGate}
 use Rattle.derive.specs.declared.lines.Derived.{Derived}
-use Rattle.derive.specs.declared.kept.Kept.{Kept}
+use Rattle.derive.specs.declared.gates.DerivedGate.{DerivedGate}
 use Rattle.derive.specs.Emission.{Written, Emits, EmitsAll}
 use Rattle.derive.specs.Known.{Known, Next, literalsOf, numbersOf, keptOf}
-use Rattle.emit.specs.declared.pass.Passed.{Passed}
-use Rattle.emit.specs.Pass.{EmitsGate, Adds, GateDone, AllDone, gatesDone, settledOdd, settledTrees}
+use Rattle.emit.specs.declared.pass.Progress.{Progress}
+use Rattle.emit.specs.Pass.{EmitsGate, Adds, GateDone, AllDone, gatesDone, normalOdd, normalTrees}
 
 -- ---- the numbers of a gate
 
-module _ {p q : List ℕ} {s : Derived} {k : Kept} where
+module _ {p q : List ℕ} {s : Derived} {k : DerivedGate} where
   -- of an even literal
   pub slots-plain : (ts : List Tree) → EmitsAll p s q k ts → EmitsGate p s q k false ts
   slots-plain ts f = record { written = f .written; lines = f .lines; clauses = f .clauses; numbers = f .numbers }
@@ -62,24 +62,24 @@ module _ {p q : List ℕ} {s : Derived} {k : Kept} where
 
 -- ---- a gate in normal form
 
-module _ (t : List Entry) (links : List (List ℕ)) (o : Bool) (d m : Defined) (is : literalsOf m ≡ normal (repOf t) o (literalsOf d)) where
+module _ (t : List Entry) (links : List (List ℕ)) (o : Bool) (d m : DefinedGate) (is : literalsOf m ≡ normal (repOf t) o (literalsOf d)) where
   pub next-normal : Next t links (literalsOf d) → Next t links (literalsOf m)
   next-normal n =
       let h = over-normal (repOf t) (length links) o (literalsOf d) (record { n = n .n; x = n .x; y = n .y }) in
       subst (Next t links) (sym is) (record { n = h .n; x = h .x; y = h .y; inside = n .inside })
 
-  pub settled-is : {p q : List ℕ} {s : Derived} {r : Kept} → numbersOf m ≡ normalNumbers (repOf t) o (literalsOf d) (numbersOf d)
-      → EmitsGate p s q r (odd (m .n)) (trees (repOf t) (linkOf links) o (literalsOf m) (numbersOf m) (keptOf t links (m .n)))
-      → EmitsGate p s q r (settledOdd t o d) (settledTrees t links o d)
-  settled-is {p} {q} {s} {r} ns f =
+  pub normal-is : {p q : List ℕ} {s : Derived} {r : DerivedGate} → numbersOf m ≡ normalNumbers (repOf t) o (literalsOf d) (numbersOf d)
+      → EmitsGate p s q r (odd (m .n .code)) (trees (repOf t) (linkOf links) o (literalsOf m) (numbersOf m) (keptOf t links (m .n .code)))
+      → EmitsGate p s q r (normalOdd t o d) (normalTrees t links o d)
+  normal-is {p} {q} {s} {r} ns f =
       let g : Literals → ClauseNumbers → Type 0 = λ x y. EmitsGate p s q r (odd (x .n)) (trees (repOf t) (linkOf links) o x y (keptOf t links (x .n))) in
       subst (g (normal (repOf t) o (literalsOf d))) ns (subst (λ (x : Literals). g x (numbersOf m)) is f)
 
 -- ---- the gate of a net
 
 -- net v as the gate of x and y, with its clauses from k on
-abbrev pub definedAt : ℕ → ℕ → ℕ → ℕ → Defined
-definedAt v x y k = record { n = 2 * v; x = x; y = y; a = k; b = k + 1; c = k + 2; d = k + 3 }
+abbrev pub definedAt : ℕ → ℕ → ℕ → ℕ → DefinedGate
+definedAt v x y k = record { n = record { code = 2 * v }; x = record { code = x }; y = record { code = y }; a = k; b = k + 1; c = k + 2; d = k + 3 }
 
 numbers-from : (v x y k : ℕ) → numbersOf (definedAt v x y k) ≡ from k
 numbers-from v x y k =
@@ -93,11 +93,11 @@ pub first-next : (t : List Entry) (links : List (List ℕ)) (v x y k : ℕ) → 
 first-next t links v x y k n h i j = record { n = omega arith; x = omega arith; y = omega arith; inside = omega arith }
 
 -- the lines and numbers of the gate, and what is known with it
-module _ (p q work more : List ℕ) (start : ℕ) (s r : Passed) (end : Derived) (kept : Kept) (t : List Entry) (links : List (List ℕ)) (v : ℕ) (g : Gate)
+module _ (p q work more : List ℕ) (start : ℕ) (s r : Progress) (end : Derived) (kept : DerivedGate) (t : List Entry) (links : List (List ℕ)) (v : ℕ) (g : Gate)
     (el : end .lines ≡ s .lines) (ec : end .clauses ≡ s .clauses) (rl : r .lines ≡ kept .lines) (rc : r .clauses ≡ kept .clauses) where
-  pub gate-done : EmitsGate p end q kept (settledOdd t (isXor (g .op)) (definedAt v (g .x) (g .y) (s .next))) (settledTrees t links (isXor (g .op)) (definedAt v (g .x) (g .y) (s .next)))
+  pub gate-done : EmitsGate p end q kept (normalOdd t (isXor (g .op)) (definedAt v (g .x) (g .y) (s .next))) (normalTrees t links (isXor (g .op)) (definedAt v (g .x) (g .y) (s .next)))
       → Known work start t links → length links ≡ v → v < length t
-      → ((ns : List ℕ) → kept .numbers ≡ filled linkWidth ns → Keeps more start (links ++ (ns ∷ []))) → Holds more t → r .next ≡ s .next + clauseCount (g .op)
+      → ((ns : List ℕ) → kept .numbers ≡ filled linkWidth ns → Keeps more start (links ++ (ns ∷ []))) → HoldsTable more t → r .next ≡ s .next + clauseCount (g .op)
       → GateDone p s q more start r t links v g
   unfolding gateTrees
   gate-done f known n h keeps rows next =
@@ -135,7 +135,7 @@ unfolding loop
 step-lines R links n k v g gs = (refl, refl)
 
 -- lines, and then others behind them
-adds-then : {p q m : List ℕ} {s d r : Passed} {ls rs : List Resolution} → Adds p s q d ls → Adds q d m r rs → Adds p s m r (ls ++ rs)
+adds-then : {p q m : List ℕ} {s d r : Progress} {ls rs : List Resolution} → Adds p s q d ls → Adds q d m r rs → Adds p s m r (ls ++ rs)
 adds-then {m = m} {s} {d} {r} {ls} {rs} f g =
     record {
       written = λ xs w n.
@@ -145,7 +145,7 @@ adds-then {m = m} {s} {d} {r} {ls} {rs} f g =
     }
 
 -- the whole of the gates is the lines that were written, and then those of the gates from i on
-pub record UpTo (p : List ℕ) (s : Passed) (q work : List ℕ) (start : ℕ) (r : Passed) (t : List Entry) (a b : Netlist) (i : ℕ) : Type 0 where
+pub record UpTo (p : List ℕ) (s : Progress) (q work : List ℕ) (start : ℕ) (r : Progress) (t : List Entry) (a b : Netlist) (i : ℕ) : Type 0 where
   pub lines : List Resolution
   pub links : List (List ℕ)
   pub adds : Adds p s q r lines
@@ -156,7 +156,7 @@ pub record UpTo (p : List ℕ) (s : Passed) (q work : List ℕ) (start : ℕ) (r
   pub whole-links : gatesDone t a b (s .clauses) .links ≡ loop (repOf t) links (r .clauses) (r .next) (firstGate a + i) (drop i (gatesOf a b)) .links
   pub next : firstZClause a b ≡ behind (r .next) (drop i (gatesOf a b))
 
-module _ (p : List ℕ) (s : Passed) (start : ℕ) (t : List Entry) (a b : Netlist) where
+module _ (p : List ℕ) (s : Progress) (start : ℕ) (t : List Entry) (a b : Netlist) where
   pub up-to-none : (work : List ℕ) → Known work start t (startLinks (a .inputs)) → s .next ≡ 2 → UpTo p s p work start s t a b 0
   unfolding firstZClause
   up-to-none work k e =
@@ -172,7 +172,7 @@ module _ (p : List ℕ) (s : Passed) (start : ℕ) (t : List Entry) (a b : Netli
         next = rw e;
       }
 
-  pub up-to-next : (q m work more : List ℕ) (d r : Passed) (i v : ℕ) (g : Gate) → i < length (gatesOf a b) → g ≡ getD (gatesOf a b) i noGate → v ≡ firstGate a + i
+  pub up-to-next : (q m work more : List ℕ) (d r : Progress) (i v : ℕ) (g : Gate) → i < length (gatesOf a b) → g ≡ getD (gatesOf a b) i noGate → v ≡ firstGate a + i
       → (u : UpTo p s q work start d t a b i) → GateDone q d m more start r t (u .links) v g → UpTo p s m more start r t a b (i + 1)
   up-to-next q m work more d r i v g h is e u f =
       let R = repOf t in
@@ -198,7 +198,7 @@ module _ (p : List ℕ) (s : Passed) (start : ℕ) (t : List Entry) (a b : Netli
   pub reads-done : pairs.Pair a b → (i v : ℕ) (g : Gate) → i < length (gatesOf a b) → g ≡ getD (gatesOf a b) i noGate → v ≡ firstGate a + i → readsBelow v g ≡ true
   reads-done ab i v g h is e = rw (e, is) (ordered-at (firstGate a) (gatesOf a b) i noGate (ordered-gates a b ab) h)
 
-  pub up-to-all : (q work : List ℕ) (r : Passed) (i : ℕ) → i ≡ length (gatesOf a b) → UpTo p s q work start r t a b i → AllDone p s q work start r t a b
+  pub up-to-all : (q work : List ℕ) (r : Progress) (i : ℕ) → i ≡ length (gatesOf a b) → UpTo p s q work start r t a b i → AllDone p s q work start r t a b
   unfolding loop
   up-to-all q work r i e u =
       let none : drop i (gatesOf a b) ≡ [] = drop-of-length-le (gatesOf a b) {i = i} (omega arith) in
@@ -213,7 +213,7 @@ module _ (p : List ℕ) (s : Passed) (start : ℕ) (t : List Entry) (a b : Netli
 -- ---- gates and outputs
 
 -- what is known of both lists' table before the first gate
-pub known-first : (a b : Netlist) → pairs.Pair a b → (work : List ℕ) (start : ℕ) → Holds work (bothTable a b) → rowWidth * length (bothTable a b) ≤ start
+pub known-first : (a b : Netlist) → pairs.Pair a b → (work : List ℕ) (start : ℕ) → HoldsTable work (bothTable a b) → rowWidth * length (bothTable a b) ≤ start
     → Keeps work start (startLinks (a .inputs)) → Known work start (bothTable a b) (startLinks (a .inputs))
 known-first a b ab work start rows h keeps =
     let n = length-table (a .inputs) (gatesOf a b) in
@@ -226,7 +226,7 @@ known-first a b ab work start rows h keeps =
     }
 
 -- all lines of both lists: those of the gates, and then those of the outputs' tree
-pub emitted : (p q m work : List ℕ) (start : ℕ) (s done : Passed) (end all : Derived) (t : List Entry) (a b : Netlist) → s .lines ≡ 0 → s .clauses ≡ lastNumber a b
+pub emitted : (p q m work : List ℕ) (start : ℕ) (s done : Progress) (end all : Derived) (t : List Entry) (a b : Netlist) → s .lines ≡ 0 → s .clauses ≡ lastNumber a b
     → end .lines ≡ done .lines → end .clauses ≡ done .clauses → AllDone p s q work start done t a b
     → Emits q end m all (lastTree (repOf t) (gatesDone t a b (s .clauses) .links) a b) → Written p []
     → Written m (emit (repOf t) a b) × (all .lines ≡ length (emit (repOf t) a b))

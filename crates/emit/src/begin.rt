@@ -12,7 +12,7 @@ ghost use Rattle.fold_laws.specs.Table.{Entry};
 ghost use Rattle.emit_laws.specs.Place.{clauseCount, firstZClause};
 ghost use Rattle.emit_laws.specs.Emit.{startLinks};
 ghost use Rattle.netlist.specs.Again.{opOf};
-ghost use Rattle.table.specs.Rows.{rowWidth, Holds};
+ghost use Rattle.table.specs.Rows.{rowWidth, HoldsTable};
 ghost use Rattle.table.specs.Links.{linkWidth, Keeps};
 ghost use Rattle.miter.specs.Miters.{Lists};
 
@@ -20,7 +20,7 @@ ghost use Rattle.miter.specs.Miters.{Lists};
 pub fn start_links(work: &mut [u16], start: usize, inputs: usize)
     requires { ⌜ (start + linkWidth * (1 + inputs) ≤ length (now work)) × (inputs ≤ mostInputs) ⌝ }
     ensures keeps { λ _. ⌜ Keeps (now (work .exit)) start (startLinks inputs) ⌝ }
-    ensures stays { λ _. ⌜ ((t : List Entry) → Holds (now (work .entry)) t → rowWidth * length t ≤ start → Holds (now (work .exit)) t) ⌝ }
+    ensures stays { λ _. ⌜ ((t : List Entry) → HoldsTable (now (work .entry)) t → rowWidth * length t ≤ start → HoldsTable (now (work .exit)) t) ⌝ }
 {
     keep(work, start, 0, [1, 0, 0, 0]);
     let mut k: usize = 0;

@@ -1,6 +1,6 @@
 // The outputs: each z is false, then each w, down to the empty clause.
 use derive::lines::Derived;
-use derive::lines::cut;
+use derive::lines::resolve_on;
 use derive::subst::subst2;
 use literal::Literal;
 use miter::both::outputs_of;
@@ -31,18 +31,20 @@ fn out(work: &[u16], start: usize, proof: &mut [u8], at: Derived, k: u16, x: u16
     ensures emits { λ r. ⌜ ((t : List Entry) (links : List (List ℕ)) → Known (now (work .entry)) start t links → netOf x < length links → netOf y < length links
         → Emits (now (proof .entry)) at (now (proof .exit)) r (outTree (repOf t) (linkOf links) k (record { op = xor; x = x; y = y }))) ⌝ }
 {
-    let p = representative(work, x);
-    let not_x = Literal { code: x }.complement();
-    let not_y = Literal { code: y }.complement();
-    if p == 1 {
-        return subst2(work, start, proof, at, k + 3, not_x.code, not_y.code);
+    let left = Literal::of(x);
+    let right = Literal::of(y);
+    let p = representative(work, left);
+    let not_x = left.complement();
+    let not_y = right.complement();
+    if p.code == Literal::TRUE {
+        return subst2(work, start, proof, at, k + 3, not_x, not_y);
     }
-    let first = subst2(work, start, proof, at, k, x, y);
-    if p == 0 {
+    let first = subst2(work, start, proof, at, k, left, right);
+    if p.code == Literal::FALSE {
         return first;
     }
-    let fourth = subst2(work, start, proof, first, k + 3, not_x.code, not_y.code);
-    cut(proof, fourth, first.clause, fourth.clause, p)
+    let fourth = subst2(work, start, proof, first, k + 3, not_x, not_y);
+    resolve_on(proof, fourth, first.clause, fourth.clause, p)
 }
 
 // One output more: run has the clause ¬w, the next w has its clauses from kw on, and z, the XOR of x and y, from kz on. It gives ¬ of the
@@ -65,9 +67,9 @@ fn next_out(
         → Emits (now (proof .entry)) run (now (proof .exit)) r
         (cutTree (cutTree (old (kw + 2)) (old (run .clause)) (positive w)) (outTree (repOf t) (linkOf links) kz (record { op = xor; x = x; y = y })) (positive z))) ⌝ }
 {
-    let half = cut(proof, run, kw + 2, run.clause, 2 * w);
+    let half = resolve_on(proof, run, kw + 2, run.clause, Literal::positive(w));
     let one = out(work, start, proof, half, kz, x, y);
-    cut(proof, one, half.clause, one.clause, 2 * z)
+    resolve_on(proof, one, half.clause, one.clause, Literal::positive(z))
 }
 
 // All outputs, whose z have their clauses from kz on, and the empty clause.
@@ -102,5 +104,11 @@ pub fn outputs(
         w = first_w + (i - 1);
         i += 1;
     }
-    cut(proof, run, kw + 3 * (count - 1), run.clause, 2 * w)
+    resolve_on(
+        proof,
+        run,
+        kw + 3 * (count - 1),
+        run.clause,
+        Literal::positive(w),
+    )
 }

@@ -6,11 +6,12 @@ use crate::normal::normal_and;
 use crate::normal::normal_xor;
 use crate::outputs::outputs;
 use derive::ands::and_gate;
-use derive::gates::Defined;
-use derive::kept::Kept;
+use derive::gates::DefinedGate;
+use derive::gates::DerivedGate;
 use derive::lines::Derived;
 use derive::xors::xor_gate;
 use frame::Op;
+use literal::Literal;
 use miter::both::gate_of;
 use netlist::Pair;
 use netlist::again::Gate;
@@ -29,55 +30,68 @@ ghost use Rattle.fold_laws.specs.Engine.{bothTable};
 ghost use Rattle.emit_laws.specs.Trees.{Tree};
 ghost use Rattle.emit_laws.specs.Emit.{startLinks};
 ghost use Rattle.netlist.specs.Again.{opOf, gateMeant};
-ghost use Rattle.table.specs.Rows.{Holds};
+ghost use Rattle.table.specs.Rows.{HoldsTable};
 ghost use Rattle.table.specs.Links.{linkWidth};
 ghost use Rattle.miter.specs.Miters.{Lists};
-ghost use Rattle.derive.specs.Emission.{Written, Room, FewKept, EmitsAll};
+ghost use Rattle.derive.specs.Emission.{Written, Room, FewGate, EmitsAll};
 ghost use Rattle.derive.specs.Known.{Known, Next, literalsOf};
-ghost use Rattle.emit.specs.Pass.{EmitsGate, GateDone, AllDone, linesOf, PassRoom, FewPassed, settledOdd, settledTrees};
+ghost use Rattle.emit.specs.Pass.{EmitsGate, GateDone, AllDone, linesOf, ProgressRoom, FewProgress, normalOdd, normalTrees};
 
 // Where the proof ends: its lines, how many clauses there are then, and the number of the next gate's first clause.
-pub struct Passed {
+pub struct Progress {
     pub lines: usize,
     pub clauses: u16,
     pub next: u16,
 }
 
 // The numbers as they are kept: two links that were made for an odd literal and its complement change places.
-fn slotted(kept: Kept, turned: bool) -> Kept
-    ensures same { λ r. ⌜ (r .lines ≡ kept .lines) × (r .clauses ≡ kept .clauses) ⌝ }
-    ensures emits { λ r. ⌜ ((p q : List ℕ) (s : Derived) (ts : List Tree) → EmitsAll p s q kept ts → EmitsGate p s q r turned ts) ⌝ }
+fn exchange_links(gate: DerivedGate, turned: bool) -> DerivedGate
+    ensures same { λ r. ⌜ (r .lines ≡ gate .lines) × (r .clauses ≡ gate .clauses) ⌝ }
+    ensures emits { λ r. ⌜ ((p q : List ℕ) (s : Derived) (ts : List Tree) → EmitsAll p s q gate ts → EmitsGate p s q r turned ts) ⌝ }
 {
     if !turned {
-        return kept;
+        return gate;
     }
-    if !kept.linked {
-        return kept;
+    if !gate.linked {
+        return gate;
     }
-    let numbers = kept.numbers;
-    Kept {
-        lines: kept.lines,
-        clauses: kept.clauses,
+    let numbers = gate.numbers;
+    DerivedGate {
+        lines: gate.lines,
+        clauses: gate.clauses,
         linked: true,
         numbers: [numbers[1], numbers[0], 0, 0],
     }
 }
 
 // The lines of a gate, from its clauses, and the numbers to be kept of it.
-fn settled(work: &[u16], start: usize, proof: &mut [u8], at: Derived, op: Op, d: Defined) -> Kept
+fn gate_lines(
+    work: &[u16],
+    start: usize,
+    proof: &mut [u8],
+    at: Derived,
+    op: Op,
+    d: DefinedGate,
+) -> DerivedGate
     requires { ⌜ Room (length (now proof)) at linesPerGate × (start ≤ length (now work)) ⌝ }
-    ensures few { λ r. ⌜ FewKept at linesPerGate r ⌝ }
+    ensures few { λ r. ⌜ FewGate at linesPerGate r ⌝ }
     ensures emits { λ r. ⌜ ((t : List Entry) (links : List (List ℕ)) → Known (now (work .entry)) start t links → Next t links (literalsOf d)
-        → EmitsGate (now (proof .entry)) at (now (proof .exit)) r (settledOdd t (isXor (opOf op)) d) (settledTrees t links (isXor (opOf op)) d)) ⌝ }
+        → EmitsGate (now (proof .entry)) at (now (proof .exit)) r (normalOdd t (isXor (opOf op)) d) (normalTrees t links (isXor (opOf op)) d)) ⌝ }
 {
     match op {
         Op::And => {
             let normal = normal_and(work, d);
-            slotted(and_gate(work, start, proof, at, normal), normal.n % 2 == 1)
+            exchange_links(
+                and_gate(work, start, proof, at, normal),
+                normal.n.sign() == 1,
+            )
         }
         Op::Xor => {
             let normal = normal_xor(work, d);
-            slotted(xor_gate(work, start, proof, at, normal), normal.n % 2 == 1)
+            exchange_links(
+                xor_gate(work, start, proof, at, normal),
+                normal.n.sign() == 1,
+            )
         }
     }
 }
@@ -87,21 +101,21 @@ fn one_gate(
     work: &mut [u16],
     start: usize,
     proof: &mut [u8],
-    at: Passed,
+    at: Progress,
     v: usize,
     gate: Gate,
-) -> Passed
-    requires { ⌜ PassRoom (length (now proof)) at linesPerGate × (start + linkWidth * v + linkWidth ≤ length (now work)) × (v ≤ highestVariable) × (at .next ≤ 60000) ⌝ }
-    ensures few { λ r. ⌜ FewPassed at linesPerGate r ⌝ }
+) -> Progress
+    requires { ⌜ ProgressRoom (length (now proof)) at linesPerGate × (start + linkWidth * v + linkWidth ≤ length (now work)) × (v ≤ highestVariable) × (at .next ≤ 60000) ⌝ }
+    ensures few { λ r. ⌜ FewProgress at linesPerGate r ⌝ }
     ensures done { λ r. ⌜ ((t : List Entry) (links : List (List ℕ)) → Known (now (work .entry)) start t links → length links ≡ v → v < length t → readsBelow v (gateMeant gate) ≡ true
         → GateDone (now (proof .entry)) at (now (proof .exit)) (now (work .exit)) start r t links v (gateMeant gate)) ⌝ }
 {
     let k = at.next;
     let op = gate.op;
-    let d = Defined {
-        n: 2 * (v as u16),
-        x: gate.x,
-        y: gate.y,
+    let d = DefinedGate {
+        n: Literal::positive(v as u16),
+        x: Literal::of(gate.x),
+        y: Literal::of(gate.y),
         a: k,
         b: k + 1,
         c: k + 2,
@@ -112,12 +126,12 @@ fn one_gate(
         clauses: at.clauses,
         clause: 0,
     };
-    let kept = settled(work, start, proof, end, op, d);
-    let numbers = kept.numbers;
+    let derived = gate_lines(work, start, proof, end, op, d);
+    let numbers = derived.numbers;
     keep(work, start, v, numbers);
-    Passed {
-        lines: kept.lines,
-        clauses: kept.clauses,
+    Progress {
+        lines: derived.lines,
+        clauses: derived.clauses,
         next: behind(k, op),
     }
 }
@@ -129,9 +143,9 @@ fn gates(
     work: &mut [u16],
     start: usize,
     proof: &mut [u8],
-    at: Passed,
-) -> Passed
-    requires { ⌜ Lists (now text) pair × PassRoom (length (now proof)) at (linesPerGate * (pair .left + pair .right))
+    at: Progress,
+) -> Progress
+    requires { ⌜ Lists (now text) pair × ProgressRoom (length (now proof)) at (linesPerGate * (pair .left + pair .right))
         × (start + linkWidth * (1 + pair .inputs + pair .left + pair .right) ≤ length (now work)) × (at .next ≡ 2) ⌝ }
     ensures few { λ r. ⌜ (r .lines ≤ at .lines + linesPerGate * (pair .left + pair .right)) × (r .clauses ≤ at .clauses + linesPerGate * (pair .left + pair .right)) ⌝ }
     ensures done { λ r. ⌜ ((w : Lists (now (text .entry)) pair) (t : List Entry) → Known (now (work .entry)) start t (startLinks (pair .inputs))
@@ -153,7 +167,7 @@ fn gates(
 pub fn emit(text: &[u8], pair: Pair, work: &mut [u16], proof: &mut [u8]) -> usize
     requires { ⌜ Lists (now text) pair × (proofLineBytes * (linesPerGate * (pair .left + pair .right) + linesPerOutput * pair .outputs) ≤ length (now proof))
         × (numbersPerNet * (1 + pair .inputs + pair .left + pair .right) ≤ length (now work)) ⌝ }
-    ensures { λ r. ⌜ ((w : Lists (now (text .entry)) pair) → Holds (now (work .entry)) (bothTable (w .left) (w .right)) → Written (now (proof .entry)) []
+    ensures { λ r. ⌜ ((w : Lists (now (text .entry)) pair) → HoldsTable (now (work .entry)) (bothTable (w .left) (w .right)) → Written (now (proof .entry)) []
         → Written (now (proof .exit)) (linesOf (w .left) (w .right)) × (r ≡ length (linesOf (w .left) (w .right)))) ⌝ }
 {
     let nets = 1 + pair.inputs + pair.left + pair.right;
@@ -162,7 +176,7 @@ pub fn emit(text: &[u8], pair: Pair, work: &mut [u16], proof: &mut [u8]) -> usiz
     let z = first_z_clause(text, pair);
     let last = z + 4 * outs + 3 * (outs - 1);
     start_links(work, start, pair.inputs);
-    let begin = Passed {
+    let begin = Progress {
         lines: 0,
         clauses: last,
         next: 2,

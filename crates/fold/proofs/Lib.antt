@@ -1,4 +1,4 @@
 -- The laws; rt itself finds the proof of each function by its place.
-pub mod MadeLaws
+pub mod OperandLaws
 pub mod EntryLaws
 pub mod PassLaws

@@ -1,8 +1,8 @@
--- What was made, as the definitions have it.
+-- What two representatives fold to, as the definitions have it.
 use Rattle.fold_laws.specs.Cases as model
-use Rattle.fold.specs.declared.made.Made.{Made}
-use Rattle.fold.specs.declared.made.Made.the-variants.{Is, Key}
+use Rattle.fold.specs.declared.operands.Folded.{Folded}
+use Rattle.fold.specs.declared.operands.Folded.the-variants.{Is, Key}
 
-abbrev pub madeOf : Made → model.Made
-madeOf (Is l) = model.Made.is l
-madeOf (Key a b) = model.Made.key a b
+abbrev pub foldedOf : Folded → model.Made
+foldedOf (Is l) = model.Made.is (l .code)
+foldedOf (Key a b) = model.Made.key (a .code) (b .code)

@@ -13,6 +13,11 @@ pub struct Literal {
 impl Literal {
     pub const HIGHEST_VARIABLE: u16 = 16383;
 
+    // The codes of the constants: net 0 is false.
+    pub const FALSE: u16 = 0;
+
+    pub const TRUE: u16 = 1;
+
     // Above every literal of the store, which holds literals plus one in 16 bits.
     pub const BOUND: u16 = 65535;
 
@@ -45,6 +50,15 @@ impl Literal {
             return Literal { code: code + 1 };
         }
         Literal { code: code - 1 }
+    }
+
+    // The literal of the same variable without its sign.
+    pub fn unsigned(self) -> Literal
+        ensures { λ r. ⌜ r .code ≡ model.positive (netOf (self .code)) ⌝ }
+    {
+        Literal {
+            code: 2 * (self.code / 2),
+        }
     }
 
     // The variable, or the net.

@@ -11,7 +11,7 @@ use lib.Dec.{eqb}
 use borrow.Author.Tests.{eqb-true, eqb-false, eq-eqb, ne-eqb}
 use Rattle.laws.specs.Bools.{both, by-cond, below-or-at}
 use Rattle.fold_laws.specs.Table as model
-use Rattle.table.specs.Rows.{rowWidth, row, Holds}
+use Rattle.table.specs.Rows.{rowWidth, row, HoldsTable}
 use Rattle.table.specs.Buckets.{bucketWidth, headAt, nextAt, mixed, bucketOf, bucketAt, latest, Indexed, Among}
 use Rattle.table.proofs.PlaceLaws.{stays-before, stays-behind}
 use Rattle.table.proofs.RowLaws.{entered, search-next, search-none}
@@ -156,7 +156,7 @@ module _ (work : List ℕ) (nets v : ℕ) (e : model.Entry) (t : List model.Entr
         getD-set-other (set work (headAt nets bucket) (v + 1)) (nextAt v) j (getD work (headAt nets bucket) 0) 0 (λ q. omega (arith, r .inside))
         ∙ getD-set-other work (headAt nets bucket) j (v + 1) 0 (λ q. omega (arith, r .inside))
 
-    rows-stay : Holds chained t
+    rows-stay : HoldsTable chained t
     rows-stay =
         record {
           room = rw chained-long (x .rows .room);

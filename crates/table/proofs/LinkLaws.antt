@@ -10,7 +10,7 @@ use lib.Dec.{ltb}
 use borrow.Author.Tests.{ltb-true, ltb-false}
 use Rattle.model.specs.Answers.{zeros, filled}
 use Rattle.fold_laws.specs.Table as model
-use Rattle.table.specs.Rows.{rowWidth, Holds}
+use Rattle.table.specs.Rows.{rowWidth, HoldsTable}
 use Rattle.table.specs.Links.{linkWidth, Keeps}
 use Rattle.table.proofs.PlaceLaws.{stays-before, stored-at}
 
@@ -66,7 +66,7 @@ module _ (work : List ℕ) (start v : ℕ) (numbers : List ℕ) (r : start + lin
           ∙ ap (λ (x : List ℕ). getD x i 0) e
           ∙ zeros-behind ns (linkWidth - length ns) i)
 
-  pub rows-stay : (t : List model.Entry) → Holds work t → rowWidth * length t ≤ start → Holds (sets work (start + linkWidth * v) (four numbers)) t
+  pub rows-stay : (t : List model.Entry) → HoldsTable work t → rowWidth * length t ≤ start → HoldsTable (sets work (start + linkWidth * v) (four numbers)) t
   rows-stay t h s =
       record {
         room = rw length-sets (h .room);

@@ -11,7 +11,7 @@ use borrow.Author.Tests.{ltb-true, ltb-false, ne-eqb, eq-eqb}
 use Rattle.model.specs.Nets.{netOf}
 use Rattle.model.specs.Clauses.{neg}
 use Rattle.fold_laws.specs.Table as model
-use Rattle.table.specs.Rows.{rowWidth, rowNumbers, row, Holds}
+use Rattle.table.specs.Rows.{rowWidth, rowNumbers, row, HoldsTable}
 use Rattle.table.proofs.PlaceLaws.{stays-before, stored-at}
 
 -- ---- a row more
@@ -25,8 +25,8 @@ row-stored l p a b c d e =
     let four : p + 4 ≡ suc (suc (suc (suc p))) = omega arith in
     rw (one, two, three, four)
 
-pub entered : (work : List ℕ) (t : List model.Entry) (e : model.Entry) (v : ℕ) → rowWidth * v + rowWidth ≤ length work → Holds work t → length t ≡ v
-    → Holds (sets work (rowWidth * v) (row e)) (t ++ (e ∷ []))
+pub entered : (work : List ℕ) (t : List model.Entry) (e : model.Entry) (v : ℕ) → rowWidth * v + rowWidth ≤ length work → HoldsTable work t → length t ≡ v
+    → HoldsTable (sets work (rowWidth * v) (row e)) (t ++ (e ∷ []))
 entered work t e v r h n =
     let l : length (t ++ (e ∷ [])) ≡ v + 1 = rw (length-append, n) in
     record { room = rw (l, length-sets) (omega arith); number = λ u i a b. at u i (omega arith) b (ltb u v) refl }
@@ -48,7 +48,7 @@ entered work t e v r h n =
 
 -- ---- the numbers of a row
 
-module _ {work : List ℕ} {t : List model.Entry} (h : Holds work t) {u : ℕ} (n : u < length t) where
+module _ {work : List ℕ} {t : List model.Entry} (h : HoldsTable work t) {u : ℕ} (n : u < length t) where
   pub rep-at : getD work (rowWidth * u) 0 ≡ model.at t u .rep
   rep-at = let z : rowWidth * u + 0 ≡ rowWidth * u = omega arith in rw z at (h .number u 0 n (omega arith))
 
@@ -66,7 +66,7 @@ module _ {work : List ℕ} {t : List model.Entry} (h : Holds work t) {u : ℕ} (
 
 -- ---- a net's kind and key
 
-module _ {work : List ℕ} {t : List model.Entry} (h : Holds work t) {u : ℕ} (n : u < length t) (k : Bool) (a b : ℕ) where
+module _ {work : List ℕ} {t : List model.Entry} (h : HoldsTable work t) {u : ℕ} (n : u < length t) (k : Bool) (a b : ℕ) where
   pub other-first : (getD work (rowWidth * u + 2) 0 ≡ a → ⊥) → false ≡ model.fits k a b (model.at t u)
   unfolding model.fits
   other-first d = rw (ne-eqb (model.at t u .ka) a (λ e. d (ka-at h n ∙ e)), and-false)
@@ -98,7 +98,7 @@ module _ (k : Bool) (a b : ℕ) (t : List model.Entry) (v u : ℕ) where
 
 -- ---- representatives
 
-module _ {work : List ℕ} {t : List model.Entry} (h : Holds work t) (l : ℕ) (n : netOf l < length t) where
+module _ {work : List ℕ} {t : List model.Entry} (h : HoldsTable work t) (l : ℕ) (n : netOf l < length t) where
   pub even-rep : l % 2 ≡ 0 → getD work (rowWidth * netOf l) 0 ≡ model.repOf t l
   unfolding model.repOf
   even-rep e = rw e (rep-at h n)

@@ -8,7 +8,7 @@ use lib.ListN.{length, getD}
 use lib.Dec.{eqb}
 use Rattle.model.specs.Limits.{highestVariable, numbersPerNet}
 use Rattle.fold_laws.specs.Table as model
-use Rattle.table.specs.Rows.{rowWidth, rowNumbers, Holds}
+use Rattle.table.specs.Rows.{rowWidth, rowNumbers, HoldsTable}
 use Rattle.table.specs.Links.{linkWidth}
 
 -- buckets for each net
@@ -41,7 +41,7 @@ latest nets t h (suc n) = cond (eqb (bucketAt nets t n) h) (suc n) (latest nets 
 
 -- the working numbers have the rows of t and their index
 pub record Indexed (work : List ℕ) (nets : ℕ) (t : List model.Entry) : Type 0 where
-  pub rows : Holds work t
+  pub rows : HoldsTable work t
   pub head : (h : ℕ) → h < bucketWidth * nets → getD work (headAt nets h) 0 ≡ latest nets t h (length t)
   pub next : (u : ℕ) → u < length t → getD work (nextAt u) 0 ≡ latest nets t (bucketAt nets t u) u
 

@@ -17,9 +17,9 @@ abbrev pub row : model.Entry → List ℕ
 row e = e .rep ∷ e .kind ∷ e .ka ∷ e .kb ∷ e .core ∷ []
 
 abbrev pub entryOf : Entry → model.Entry
-entryOf e = record { rep = e .rep; kind = e .kind; ka = e .ka; kb = e .kb; core = e .core }
+entryOf e = record { rep = e .rep .code; kind = e .kind; ka = e .ka .code; kb = e .kb .code; core = e .core .code }
 
 -- the working numbers begin with the rows of t
-pub record Holds (work : List ℕ) (t : List model.Entry) : Type 0 where
+pub record HoldsTable (work : List ℕ) (t : List model.Entry) : Type 0 where
   pub room : rowWidth * length t ≤ length work
   pub number : (u i : ℕ) → u < length t → i < rowNumbers → getD work (rowWidth * u + i) 0 ≡ getD (row (model.at t u)) i 0

@@ -6,6 +6,7 @@ use crate::rows::Entry;
 use crate::rows::ROW;
 use crate::rows::enter;
 use crate::rows::fits;
+use literal::Literal;
 ghost use mathlib.Core.Path.{_≡_};
 ghost use mathlib.Core.Bool.{Bool};
 ghost use mathlib.Core.List.{List, [], _∷_, _++_};
@@ -23,15 +24,15 @@ const NEXT: usize = 5;
 
 // The bucket of a kind and key. The factors are about 2³² × 1/ρ, 1/ρ² and 1/φ² (plastic number, golden ratio), so that keys that rise in steps,
 // as those of consecutive gates do, lie apart. The scaling is by a multiplication, since a remainder by the count is slow.
-fn bucket(nets: usize, kind: u16, a: u16, b: u16) -> usize
+fn bucket(nets: usize, kind: u16, a: Literal, b: Literal) -> usize
     requires { ⌜ (0 < nets) × (nets ≤ highestVariable + 1) ⌝ }
-    ensures { λ r. ⌜ (r ≡ bucketOf nets kind a b) × (r < bucketWidth * nets) ⌝ }
+    ensures { λ r. ⌜ (r ≡ bucketOf nets kind (a .code) (b .code)) × (r < bucketWidth * nets) ⌝ }
 {
-    if a == 0 {
+    if a.code == 0 {
         return 0;
     }
-    let mixed = ((a as usize) * 3242174889
-        + (b as usize) * 2447445415
+    let mixed = ((a.code as usize) * 3242174889
+        + (b.code as usize) * 2447445415
         + (kind as usize) * 1640531527)
         % 4294967296;
     1 + mixed * (BUCKETS * nets - 1) / 4294967296
@@ -63,9 +64,9 @@ pub fn empty(work: &mut [u16], nets: usize)
 }
 
 // The least net below v with this kind and key, or v. It is the last on the chain that fits; that keys are unique is not used.
-pub fn find(work: &[u16], nets: usize, v: usize, kind: u16, a: u16, b: u16) -> usize
+pub fn find(work: &[u16], nets: usize, v: usize, kind: u16, a: Literal, b: Literal) -> usize
     requires { ⌜ Among (length (now work)) nets v ⌝ }
-    ensures { λ r. ⌜ ((t : List model.Entry) (k : Bool) → Indexed (now (work .entry)) nets t → length t ≡ v → kind ≡ model.kindOf k → r ≡ model.find k a b t v 0) ⌝ }
+    ensures { λ r. ⌜ ((t : List model.Entry) (k : Bool) → Indexed (now (work .entry)) nets t → length t ≡ v → kind ≡ model.kindOf k → r ≡ model.find k (a .code) (b .code) t v 0) ⌝ }
 {
     let head = (ROW + LINKS) * nets + bucket(nets, kind, a, b);
     let mut next = at_most(work, head, v);

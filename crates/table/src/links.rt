@@ -1,5 +1,6 @@
 // The numbers of clauses, four for each net from a place on: a net that stands for another has the two clauses that link its literals to
 // their representatives, a gate that stands for itself the clauses over its key.
+use literal::Literal;
 ghost use mathlib.Core.Path.{_≡_};
 ghost use mathlib.Core.List.{List, [], _∷_, _++_};
 ghost use Prim.Native.Nat.{ℕ, _+_, _*_, _%_, _<_, _≤_};
@@ -7,7 +8,7 @@ ghost use lib.ListN.{length, getD};
 ghost use Rattle.model.specs.Answers.{filled};
 ghost use Rattle.model.specs.Nets.{netOf};
 ghost use Rattle.fold_laws.specs.Table as model;
-ghost use Rattle.table.specs.Rows.{rowWidth, Holds};
+ghost use Rattle.table.specs.Rows.{rowWidth, HoldsTable};
 ghost use Rattle.table.specs.Links.{linkWidth, Keeps};
 
 pub const LINKS: usize = 4;
@@ -25,18 +26,18 @@ pub fn number_at(work: &[u16], start: usize, u: usize, i: usize) -> u16
 }
 
 // The clause that links a literal to its representative.
-pub fn link(work: &[u16], start: usize, l: u16) -> u16
+pub fn link(work: &[u16], start: usize, l: Literal) -> u16
     requires { ⌜ start ≤ length (now work) ⌝ }
-    ensures { λ r. ⌜ ((links : List (List ℕ)) → Keeps (now (work .entry)) start links → netOf l < length links → r ≡ getD (getD links (netOf l) []) (l % 2) 0) ⌝ }
+    ensures { λ r. ⌜ ((links : List (List ℕ)) → Keeps (now (work .entry)) start links → netOf (l .code) < length links → r ≡ getD (getD links (netOf (l .code)) []) (l .code % 2) 0) ⌝ }
 {
-    number_at(work, start, (l / 2) as usize, (l % 2) as usize)
+    number_at(work, start, l.variable() as usize, l.sign() as usize)
 }
 
 // The numbers of net v, behind those of the nets before it. Rows in front stay.
 pub fn keep(work: &mut [u16], start: usize, v: usize, numbers: [u16; 4])
     requires { ⌜ start + linkWidth * v + linkWidth ≤ length (now work) ⌝ }
     ensures keeps { λ _. ⌜ ((links : List (List ℕ)) (ns : List ℕ) → Keeps (now (work .entry)) start links → length links ≡ v → numbers ≡ filled linkWidth ns → Keeps (now (work .exit)) start (links ++ (ns ∷ []))) ⌝ }
-    ensures stays { λ _. ⌜ ((t : List model.Entry) → Holds (now (work .entry)) t → rowWidth * length t ≤ start → Holds (now (work .exit)) t) ⌝ }
+    ensures stays { λ _. ⌜ ((t : List model.Entry) → HoldsTable (now (work .entry)) t → rowWidth * length t ≤ start → HoldsTable (now (work .exit)) t) ⌝ }
 {
     let at = start + LINKS * v;
     work[at] = numbers[0];

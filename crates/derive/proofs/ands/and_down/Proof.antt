@@ -7,7 +7,7 @@ use Rattle.derive.proofs.ands.and_down.Statement.{statement}
 use Rattle.derive.proofs.ands.and_down.Tie as tie
 use Rattle.derive.proofs.ands.and_down.Reads as reads
 use Rattle.derive.proofs.ands.and_down.Lts as lts
-use Rattle.derive.proofs.lines.cut.Reads as cut-reads
+use Rattle.derive.proofs.lines.resolve_on.Reads as resolve-on-reads
 use Rattle.derive.proofs.subst.subst2.Reads as subst2-reads
 use Rattle.table.proofs.links.number_at.Reads as number-at-reads
 use Rattle.table.proofs.rows.representative.Reads as representative-reads
@@ -24,34 +24,37 @@ number-at-requires c κs = search needs
 representative-requires : tie.Need-representative-requires
 representative-requires c κs = search needs
 
-cut-requires : tie.Need-cut-requires
-cut-requires c κs = search needs
+resolve-on-requires : tie.Need-resolve-on-requires
+resolve-on-requires c κs = search needs
 
 representative-requires-2 : tie.Need-representative-requires-2
 representative-requires-2 c κs = search needs
 
-cut-requires-2 : tie.Need-cut-requires-2
-cut-requires-2 c κs =
+resolve-on-requires-2 : tie.Need-resolve-on-requires-2
+resolve-on-requires-2 c κs =
     let half = c .before .before .before .before in
     let first = half .before .before .before .before .before .before in
     let second = first .before .before .before .before in
     let start = second .before .before .before .before in
-    room-then (start .pre .0) (few-then (few-then (second .subst2 .ensures .0) (first .subst22 .ensures .0)) (half .cut .ensures .0))
+    room-then (start .pre .0) (few-then (few-then (second .subst2 .ensures .0) (first .subst22 .ensures .0)) (half .resolve-on .ensures .0))
     (c .before .before .before .proof3 .given ∙ half .before .before .before .before .before .proof2 .given ∙ first .before .before .before .proof .given) (omega arith)
 
 same-length : tie.Need-same-length
-same-length c = search needs
+same-length c =
+    let half = c .before .before .before .before .before .before .before in
+    let first = half .before .before .before .before .before .before in
+    c .before .proof4 .given ∙ c .before .before .before .before .before .before .proof3 .given ∙ half .before .before .before .before .before .proof2 .given ∙ first .before .before .before .proof .given
 
 returns : tie.Need-returns
 returns c =
     let half = c .before .before .before .before .before .before .before in
     let first = half .before .before .before .before .before .before in
     let second = first .before .before .before .before in (
-      few-then (few-then (few-then (second .subst2 .ensures .0) (first .subst22 .ensures .0)) (half .cut .ensures .0)) (c .before .before .cut2 .ensures .0),
+      few-then (few-then (few-then (second .subst2 .ensures .0) (first .subst22 .ensures .0)) (half .resolve-on .ensures .0)) (c .before .before .resolve-on2 .ensures .0),
       λ t links k h u.
           emits-cut (second .subst2 .ensures .1 t links k (h .y) (h .y))
-          (emits-cut-right (first .subst22 .ensures .1 t links k (h .x) (h .x)) (rw (half .before .before .number-at .ensures links (k .numbers) u, half .before .representative .ensures t (k .rows) (omega arith)) at (half .cut .ensures .1)))
-          (rw (c .before .before .before .representative2 .ensures t (k .rows) (omega arith)) at (c .before .before .cut2 .ensures .1)),
+          (emits-cut-right (first .subst22 .ensures .1 t links k (h .x) (h .x)) (rw (half .before .before .number-at .ensures links (k .numbers) u, half .before .representative .ensures t (k .rows) (omega arith)) at (half .resolve-on .ensures .1)))
+          (rw (c .before .before .before .representative2 .ensures t (k .rows) (omega arith)) at (c .before .before .resolve-on2 .ensures .1)),
     )
 
 pub and-down-spec : {M : Type 1} → statement M
@@ -62,8 +65,8 @@ and-down-spec =
     subst2-requires-2
     number-at-requires
     representative-requires
-    cut-requires
+    resolve-on-requires
     representative-requires-2
-    cut-requires-2
+    resolve-on-requires-2
     same-length
     returns)

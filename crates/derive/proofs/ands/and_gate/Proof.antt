@@ -5,15 +5,15 @@ use mathlib.Core.Logic.{⊎-elim}
 use native.Mathlib.Omega.{arith}
 use borrow.Author.Tests.{eq-eqb}
 use Rattle.derive.proofs.EmitLaws.{few-more}
-use Rattle.derive.proofs.CaseLaws.{and-nil, and-pass, and-opp, and-pair, and-case}
+use Rattle.derive.proofs.CaseLaws.{and-false, and-pass, and-opposite, and-pair, and-case}
 use borrow.Author.Needs.{needs}
 use Rattle.derive.proofs.ands.and_gate.Statement.{statement}
 use Rattle.derive.proofs.ands.and_gate.Tie as tie
 use Rattle.derive.proofs.ands.and_gate.Reads as reads
 use Rattle.derive.proofs.ands.and_gate.Lts as lts
 use Rattle.literal.proofs.Literal.complement.Reads as complement-reads
-use Rattle.derive.proofs.ands.and_nil.Reads as and-nil-reads
-use Rattle.derive.proofs.ands.and_opp.Reads as and-opp-reads
+use Rattle.derive.proofs.ands.and_false.Reads as and-false-reads
+use Rattle.derive.proofs.ands.and_opposite.Reads as and-opposite-reads
 use Rattle.derive.proofs.ands.and_pair.Reads as and-pair-reads
 use Rattle.derive.proofs.ands.and_pass.Reads as and-pass-reads
 use Rattle.table.proofs.rows.representative.Reads as representative-reads
@@ -24,21 +24,21 @@ representative-requires c κs = search needs
 representative-requires-2 : tie.Need-representative-requires-2
 representative-requires-2 c κs = search needs
 
-and-nil-requires : tie.Need-and-nil-requires
-and-nil-requires c κs = search needs
+and-false-requires : tie.Need-and-false-requires
+and-false-requires c κs = search needs
 
 same-length : tie.Need-same-length
 same-length c = search needs
 
 returns : tie.Need-returns
 returns c =
-    let second = c .before .before .before .before .before in
+    let second = c .before .before .before .before .before .before in
     let first = second .before in
     let start = first .before .before .before in (
-      few-more (c .before .before .and-nil .ensures .0) (omega arith),
+      few-more (c .before .before .and-false .ensures .0) (omega arith),
       and-case (start .args .d) (first .representative .ensures) (second .representative2 .ensures)
-          (and-nil _ _ (c .before .before .before .before .if1 .taken))
-          (c .before .before .and-nil .ensures .1),
+          (and-false _ _ (c .before .before .before .before .if1 .taken))
+          (c .before .before .and-false .ensures .1),
     )
 
 and-pass-requires : tie.Need-and-pass-requires
@@ -49,20 +49,21 @@ same-length-2 c = search needs
 
 returns-2 : tie.Need-returns-2
 returns-2 c =
-    let second = c .before .before .before .before .before .before in
+    let test = c .before .before .before .before .before .before in
+    let second = test .before .before in
     let first = second .before in
     let start = first .before .before .before in (
       few-more (c .before .before .and-pass .ensures .0) (omega arith),
       and-case (start .args .d) (first .representative .ensures) (second .representative2 .ensures)
-          (and-pass _ _ (c .before .before .before .before .before .if1 .left) (⊎-elim (λ w. rw (eq-eqb _ 1 (w .taken))) (λ w. rw (w .1 .taken, or-true)) (c .before .before .before .before .if2 .came)))
+          (and-pass _ _ (test .if1 .left) (⊎-elim (λ w. rw (eq-eqb _ 1 (w .taken))) (λ w. rw (w .3 .taken, or-true)) (c .before .before .before .before .if2 .came)))
           (c .before .before .and-pass .ensures .1),
     )
 
 complement-requires : tie.Need-complement-requires
 complement-requires c κs = search needs
 
-and-opp-requires : tie.Need-and-opp-requires
-and-opp-requires c κs = search needs
+and-opposite-requires : tie.Need-and-opposite-requires
+and-opposite-requires c κs = search needs
 
 same-length-3 : tie.Need-same-length-3
 same-length-3 c = search needs
@@ -70,14 +71,17 @@ same-length-3 c = search needs
 returns-3 : tie.Need-returns-3
 returns-3 c =
     let last = c .before .before .before .before in
-    let test = last .before .before .before in
-    let second = test .before .before .before in
+    let complemented = last .before .before .before in
+    let third = complemented .before in
+    let second-test = third .before .before .before in
+    let first-test = second-test .before .before in
+    let second = first-test .before .before in
     let first = second .before in
     let start = first .before .before .before in (
-      few-more (c .before .before .and-opp .ensures .0) (omega arith),
+      few-more (c .before .before .and-opposite .ensures .0) (omega arith),
       and-case (start .args .d) (first .representative .ensures) (second .representative2 .ensures)
-          (and-opp _ _ (test .before .before .if1 .left) (test .before .if2 .left) (test .if3 .left) (last .if4 .taken ∙ last .before .before .complement .ensures))
-          (c .before .before .and-opp .ensures .1),
+          (and-opposite _ _ (first-test .if1 .left) (second-test .if2 .left) (third .if3 .left) (last .if4 .taken ∙ complemented .complement .ensures))
+          (c .before .before .and-opposite .ensures .1),
     )
 
 and-pair-requires : tie.Need-and-pair-requires
@@ -89,13 +93,16 @@ same-length-4 c = search needs
 returns-4 : tie.Need-returns-4
 returns-4 c =
     let last = c .before .before .before .before in
-    let test = last .before .before .before in
-    let second = test .before .before .before in
+    let complemented = last .before .before .before in
+    let third = complemented .before in
+    let second-test = third .before .before .before in
+    let first-test = second-test .before .before in
+    let second = first-test .before .before in
     let first = second .before in
     let start = first .before .before .before in (
       few-more (c .before .before .and-pair .ensures .0) (omega arith),
       and-case (start .args .d) (first .representative .ensures) (second .representative2 .ensures)
-          (and-pair _ _ (test .before .before .if1 .left) (test .before .if2 .left) (test .if3 .left) (λ e. last .if4 .left (e ∙ sym (last .before .before .complement .ensures))))
+          (and-pair _ _ (first-test .if1 .left) (second-test .if2 .left) (third .if3 .left) (λ e. last .if4 .left (e ∙ sym (complemented .complement .ensures))))
           (c .before .before .and-pair .ensures .1),
     )
 
@@ -105,14 +112,14 @@ and-gate-spec =
     (tie.spec
     representative-requires
     representative-requires-2
-    and-nil-requires
+    and-false-requires
     same-length
     returns
     and-pass-requires
     same-length-2
     returns-2
     complement-requires
-    and-opp-requires
+    and-opposite-requires
     same-length-3
     returns-3
     and-pair-requires

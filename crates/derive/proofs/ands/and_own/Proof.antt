@@ -1,13 +1,13 @@
 -- The clauses one after the other, the third over complemented operands.
 use native.Mathlib.Omega.{arith}
-use Rattle.derive.proofs.EmitLaws.{few-then, few-kept, none, then, emits-all}
+use Rattle.derive.proofs.EmitLaws.{few-then, few-gate, none, then, emits-all}
 use borrow.Author.Needs.{needs}
 use Rattle.derive.proofs.ands.and_own.Statement.{statement}
 use Rattle.derive.proofs.ands.and_own.Tie as tie
 use Rattle.derive.proofs.ands.and_own.Reads as reads
 use Rattle.derive.proofs.ands.and_own.Lts as lts
 use Rattle.literal.proofs.Literal.complement.Reads as complement-reads
-use Rattle.derive.proofs.kept.three.Reads as three-reads
+use Rattle.derive.proofs.gates.and_clauses.Reads as and-clauses-reads
 use Rattle.derive.proofs.subst.subst2.Reads as subst2-reads
 
 complement-requires : tie.Need-complement-requires
@@ -25,8 +25,8 @@ subst2-requires-2 c κs = search needs
 subst2-requires-3 : tie.Need-subst2-requires-3
 subst2-requires-3 c κs = search needs
 
-three-requires : tie.Need-three-requires
-three-requires c κs = search needs
+and-clauses-requires : tie.Need-and-clauses-requires
+and-clauses-requires c κs = search needs
 
 same-length : tie.Need-same-length
 same-length c = search needs
@@ -38,13 +38,13 @@ returns c =
     let first = second .before .before .before .before in
     let x = first .before .before .before .complement .ensures in
     let y = first .before .before .complement2 .ensures in (
-      few-kept (few-then (few-then (first .subst2 .ensures .0) (second .subst22 .ensures .0)) (third .subst23 .ensures .0)) (c .three .ensures),
+      few-gate (few-then (few-then (first .subst2 .ensures .0) (second .subst22 .ensures .0)) (third .subst23 .ensures .0)) (c .and-clauses .ensures),
       λ t links k h.
           emits-all
           (then (first .subst2 .ensures .1 t links k (h .x) (h .x))
           (then (second .subst22 .ensures .1 t links k (h .y) (h .y))
           (then (rw (x, y) at (third .subst23 .ensures .1 t links k (omega (arith, x)) (omega (arith, y)))) none)))
-          (c .three .ensures),
+          (c .and-clauses .ensures),
     )
 
 pub and-own-spec : {M : Type 1} → statement M
@@ -56,6 +56,6 @@ and-own-spec =
     subst2-requires
     subst2-requires-2
     subst2-requires-3
-    three-requires
+    and-clauses-requires
     same-length
     returns)

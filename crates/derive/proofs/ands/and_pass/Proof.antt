@@ -1,14 +1,14 @@
 -- The links of the gate and of its complement, the second over complemented operands.
 use native.Mathlib.Omega.{arith}
 use Rattle.emit_laws.specs.CaseTrees.{andTrees}
-use Rattle.derive.proofs.EmitLaws.{few-then, few-kept, emits-two}
+use Rattle.derive.proofs.EmitLaws.{few-then, few-gate, emits-two}
 use borrow.Author.Needs.{needs}
 use Rattle.derive.proofs.ands.and_pass.Statement.{statement}
 use Rattle.derive.proofs.ands.and_pass.Tie as tie
 use Rattle.derive.proofs.ands.and_pass.Reads as reads
 use Rattle.derive.proofs.ands.and_pass.Lts as lts
 use Rattle.literal.proofs.Literal.complement.Reads as complement-reads
-use Rattle.derive.proofs.kept.two.Reads as two-reads
+use Rattle.derive.proofs.gates.two_links.Reads as two-links-reads
 use Rattle.derive.proofs.subst.link2.Reads as link2-reads
 
 complement-requires : tie.Need-complement-requires
@@ -26,8 +26,8 @@ link2-requires c κs = search needs
 link2-requires-2 : tie.Need-link2-requires-2
 link2-requires-2 c κs = search needs
 
-two-requires : tie.Need-two-requires
-two-requires c κs = search needs
+two-links-requires : tie.Need-two-links-requires
+two-links-requires c κs = search needs
 
 same-length : tie.Need-same-length
 same-length c = search needs
@@ -40,10 +40,10 @@ returns c =
     let n = down .before .before .before .before .complement .ensures in
     let x = down .before .before .before .complement2 .ensures in
     let y = down .before .before .complement3 .ensures in (
-      few-kept (few-then (down .link2 .ensures .0) (up .link22 .ensures .0)) (c .two .ensures),
+      few-gate (few-then (down .link2 .ensures .0) (up .link22 .ensures .0)) (c .two-links .ensures),
       λ t links k h.
           emits-two (down .link2 .ensures .1 t links k (omega arith) (h .y) (h .y))
-          (rw (n, x, y) at (up .link22 .ensures .1 t links k (omega (arith, n)) (omega (arith, x)) (omega (arith, y)))) (c .two .ensures),
+          (rw (n, x, y) at (up .link22 .ensures .1 t links k (omega (arith, n)) (omega (arith, x)) (omega (arith, y)))) (c .two-links .ensures),
     )
 
 pub and-pass-spec : {M : Type 1} → statement M
@@ -55,6 +55,6 @@ and-pass-spec =
     complement-requires-3
     link2-requires
     link2-requires-2
-    two-requires
+    two-links-requires
     same-length
     returns)

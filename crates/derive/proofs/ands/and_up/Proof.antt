@@ -8,7 +8,7 @@ use Rattle.derive.proofs.ands.and_up.Tie as tie
 use Rattle.derive.proofs.ands.and_up.Reads as reads
 use Rattle.derive.proofs.ands.and_up.Lts as lts
 use Rattle.literal.proofs.Literal.complement.Reads as complement-reads
-use Rattle.derive.proofs.lines.cut.Reads as cut-reads
+use Rattle.derive.proofs.lines.resolve_on.Reads as resolve-on-reads
 use Rattle.derive.proofs.subst.subst2.Reads as subst2-reads
 use Rattle.table.proofs.links.number_at.Reads as number-at-reads
 use Rattle.table.proofs.rows.representative.Reads as representative-reads
@@ -28,8 +28,8 @@ number-at-requires c κs = search needs
 representative-requires : tie.Need-representative-requires
 representative-requires c κs = search needs
 
-cut-requires : tie.Need-cut-requires
-cut-requires c κs = search needs
+resolve-on-requires : tie.Need-resolve-on-requires
+resolve-on-requires c κs = search needs
 
 number-at-requires-2 : tie.Need-number-at-requires-2
 number-at-requires-2 c κs = search needs
@@ -37,12 +37,12 @@ number-at-requires-2 c κs = search needs
 representative-requires-2 : tie.Need-representative-requires-2
 representative-requires-2 c κs = search needs
 
-cut-requires-2 : tie.Need-cut-requires-2
-cut-requires-2 c κs =
+resolve-on-requires-2 : tie.Need-resolve-on-requires-2
+resolve-on-requires-2 c κs =
     let half = c .before .before .before .before .before in
     let third = half .before .before .before .before .before .before in
     let start = third .before .before .before .before .before .before in
-    room-then (start .pre .0) (few-then (third .subst2 .ensures .0) (half .cut .ensures .0)) (c .before .before .before .before .proof2 .given ∙ half .before .before .before .before .before .proof .given) (omega arith)
+    room-then (start .pre .0) (few-then (third .subst2 .ensures .0) (half .resolve-on .ensures .0)) (c .before .before .before .before .proof2 .given ∙ half .before .before .before .before .before .proof .given) (omega arith)
 
 same-length : tie.Need-same-length
 same-length c = search needs
@@ -53,11 +53,11 @@ returns c =
     let third = half .before .before .before .before .before .before in
     let x = third .before .before .before .complement .ensures in
     let y = third .before .before .complement2 .ensures in (
-      few-then (few-then (third .subst2 .ensures .0) (half .cut .ensures .0)) (c .before .before .cut2 .ensures .0),
+      few-then (few-then (third .subst2 .ensures .0) (half .resolve-on .ensures .0)) (c .before .before .resolve-on2 .ensures .0),
       λ t links k h u.
           emits-cut-left
-          (emits-cut-left (rw (x, y) at (third .subst2 .ensures .1 t links k (omega (arith, x)) (omega (arith, y)))) (rw (half .before .before .number-at .ensures links (k .numbers) u, half .before .representative .ensures t (k .rows) (omega arith)) at (half .cut .ensures .1)))
-          (rw (c .before .before .before .before .number-at2 .ensures links (k .numbers) u, c .before .before .before .representative2 .ensures t (k .rows) (omega arith)) at (c .before .before .cut2 .ensures .1)),
+          (emits-cut-left (rw (x, y) at (third .subst2 .ensures .1 t links k (omega (arith, x)) (omega (arith, y)))) (rw (half .before .before .number-at .ensures links (k .numbers) u, half .before .representative .ensures t (k .rows) (omega arith)) at (half .resolve-on .ensures .1)))
+          (rw (c .before .before .before .before .number-at2 .ensures links (k .numbers) u, c .before .before .before .representative2 .ensures t (k .rows) (omega arith)) at (c .before .before .resolve-on2 .ensures .1)),
     )
 
 pub and-up-spec : {M : Type 1} → statement M
@@ -69,9 +69,9 @@ and-up-spec =
     subst2-requires
     number-at-requires
     representative-requires
-    cut-requires
+    resolve-on-requires
     number-at-requires-2
     representative-requires-2
-    cut-requires-2
+    resolve-on-requires-2
     same-length
     returns)

@@ -22,11 +22,12 @@ given-requires c κs = search needs
 
 returns : tie.Need-returns
 returns c =
-    let a = c .before .before .before .before .before .args in
-    let n = c .before .before .representative .ensures in (
+    let known = c .before .before .before in
+    let a = known .before .before .before .args in
+    let n = known .representative .ensures in (
       few-old (c .given .ensures),
       λ t links k m h i.
-          emits-no-link (repOf t) (linkOf links) (old (a .c)) (a .l) (a .n) (a .m) (sym (n t (k .rows) m) ∙ c .before .if1 .taken)
+          emits-no-link (repOf t) (linkOf links) (old (a .c)) (a .l .code) (a .n .code) (a .m .code) (sym (n t (k .rows) m) ∙ c .before .if1 .taken)
           (emits-old _ _ _ (c .given .ensures)),
     )
 
@@ -38,12 +39,14 @@ same-length c = search needs
 
 returns-2 : tie.Need-returns-2
 returns-2 c =
-    let a = c .before .before .before .before .before .before .before .before .args in
-    let n = c .before .before .before .before .before .representative .ensures in
+    let test = c .before .before .before .before in
+    let known = test .before .before in
+    let a = known .before .before .before .args in
+    let n = known .representative .ensures in
     let g = c .before .before .subst2 .ensures in (
       g .0,
       λ t links k m h i.
-          emits-link (repOf t) (linkOf links) (old (a .c)) (a .l) (a .n) (a .m) (λ e. c .before .before .before .before .if1 .left (n t (k .rows) m ∙ e))
+          emits-link (repOf t) (linkOf links) (old (a .c)) (a .l .code) (a .n .code) (a .m .code) (λ e. test .if1 .left (n t (k .rows) m ∙ e))
           (g .1 t links k h i),
     )
 

@@ -14,7 +14,7 @@ use Rattle.derive.proofs.subst.subst1.Statement.{statement}
 use Rattle.derive.proofs.subst.subst1.Tie as tie
 use Rattle.derive.proofs.subst.subst1.Reads as reads
 use Rattle.derive.proofs.subst.subst1.Lts as lts
-use Rattle.derive.proofs.lines.cut.Reads as cut-reads
+use Rattle.derive.proofs.lines.resolve_on.Reads as resolve-on-reads
 use Rattle.derive.proofs.lines.given.Reads as given-reads
 use Rattle.table.proofs.links.link.Reads as link-reads
 use Rattle.table.proofs.rows.representative.Reads as representative-reads
@@ -27,34 +27,38 @@ given-requires c κs = search needs
 
 returns : tie.Need-returns
 returns c =
-    let a = c .before .before .before .before .before .before .args in
-    let n = c .before .before .before .representative .ensures in (
+    let test = c .before .before .before in
+    let known = test .before .before .before in
+    let a = known .before .before .before .args in
+    let n = known .representative .ensures in (
       few-old (c .given .ensures),
       λ t links k h.
-          emits-own (repOf t) (linkOf links) (old (a .c)) (a .l)
-          (rw (eq-eqb (repOf t (a .l)) (a .l) (sym (n t (k .rows) (omega arith)) ∙ c .before .before .if1 .taken), c .before .if2 .taken))
+          emits-own (repOf t) (linkOf links) (old (a .c)) (a .l .code)
+          (rw (eq-eqb (repOf t (a .l .code)) (a .l .code) (sym (n t (k .rows) (omega arith)) ∙ test .if1 .taken), c .before .if2 .taken))
           (emits-old _ _ _ (c .given .ensures)),
     )
 
 link-requires : tie.Need-link-requires
 link-requires c κs = search needs
 
-cut-requires : tie.Need-cut-requires
-cut-requires c κs = search needs
+resolve-on-requires : tie.Need-resolve-on-requires
+resolve-on-requires c κs = search needs
 
 same-length : tie.Need-same-length
 same-length c = search needs
 
 returns-2 : tie.Need-returns-2
 returns-2 c =
-    let a = c .before .before .before .before .before .before .before .before .before .args in
-    let n = c .before .before .before .before .before .before .representative .ensures in
-    let g = c .before .before .cut .ensures in (
+    let test = c .before .before .before .before .before in
+    let known = test .before .before .before in
+    let a = known .before .before .before .args in
+    let n = known .representative .ensures in
+    let g = c .before .before .resolve-on .ensures in (
       g .0,
       λ t links k h.
-          emits-linked (repOf t) (linkOf links) (old (a .c)) (a .l)
-          (⊎-elim (λ w. rw (w .1 .left, and-false)) (λ w. rw (ne-eqb (repOf t (a .l)) (a .l) (λ e. w .left (n t (k .rows) (omega arith) ∙ e))))
-          (c .before .before .before .before .before .if1 .came))
+          emits-linked (repOf t) (linkOf links) (old (a .c)) (a .l .code)
+          (⊎-elim (λ w. rw (w .2 .left, and-false)) (λ w. rw (ne-eqb (repOf t (a .l .code)) (a .l .code) (λ e. w .left (n t (k .rows) (omega arith) ∙ e))))
+          (test .if1 .came))
           (rw (c .before .before .before .link .ensures links (k .numbers) h) at (g .1)),
     )
 
@@ -66,6 +70,6 @@ subst1-spec =
     given-requires
     returns
     link-requires
-    cut-requires
+    resolve-on-requires
     same-length
     returns-2)

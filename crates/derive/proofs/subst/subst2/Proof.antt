@@ -19,9 +19,10 @@ same-length c = search needs
 
 returns : tie.Need-returns
 returns c =
-    let g = c .before .before .before .subst1 .ensures in
-    let a = c .before .before .before .before .before .before .before .args in
-    (search needs, λ t links k h i. emits-once (repOf t) (linkOf links) (old (a .c)) (a .l) (a .m) (c .if1 .taken) (g .1 t links k h))
+    let one = c .before .before .before .before .before in
+    let g = one .subst1 .ensures in
+    let a = one .before .before .before .before .args in
+    (search needs, λ t links k h i. emits-once (repOf t) (linkOf links) (old (a .c)) (a .l .code) (a .m .code) (c .if1 .taken) (g .1 t links k h))
 
 subst1-requires-2 : tie.Need-subst1-requires-2
 subst1-requires-2 c κs = search needs
@@ -31,12 +32,14 @@ same-length-2 c = search needs
 
 returns-2 : tie.Need-returns-2
 returns-2 c =
-    let a = c .before .before .before .before .before .before .before .before .before .before .before .args in
-    let f = c .before .before .before .before .before .before .before .subst1 .ensures in
+    let test = c .before .before .before .before in
+    let one = test .before .before .before .before .before in
+    let a = one .before .before .before .before .args in
+    let f = one .subst1 .ensures in
     let g = c .before .before .subst12 .ensures in (
       few-then (f .0) (g .0),
       λ t links k h i.
-          emits-twice (repOf t) (linkOf links) (old (a .c)) (a .l) (a .m) (c .before .before .before .before .if1 .left) (f .1 t links k h) (g .1 t links k i),
+          emits-twice (repOf t) (linkOf links) (old (a .c)) (a .l .code) (a .m .code) (test .if1 .left) (f .1 t links k h) (g .1 t links k i),
     )
 
 pub subst2-spec : {M : Type 1} → statement M

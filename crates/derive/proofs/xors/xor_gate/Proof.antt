@@ -26,7 +26,7 @@ same-length c = search needs
 
 returns : tie.Need-returns
 returns c =
-    let second = c .before .before .before .before .before in
+    let second = c .before .before .before .before .before .before in
     let first = second .before in
     let start = first .before .before .before in (
       few-more (c .before .before .xor-pass .ensures .0) (omega arith),
@@ -43,12 +43,13 @@ same-length-2 c = search needs
 
 returns-2 : tie.Need-returns-2
 returns-2 c =
-    let second = c .before .before .before .before .before .before in
+    let test = c .before .before .before .before .before .before .before in
+    let second = test .before .before in
     let first = second .before in
     let start = first .before .before .before in (
       few-more (c .before .before .xor-same .ensures .0) (omega arith),
       xor-case (start .args .d) (first .representative .ensures) (second .representative2 .ensures)
-          (xor-same _ _ (c .before .before .before .before .before .if1 .left) (c .before .before .before .before .if2 .taken))
+          (xor-same _ _ (test .if1 .left) (c .before .before .before .before .if2 .taken))
           (c .before .before .xor-same .ensures .1),
     )
 
@@ -60,12 +61,13 @@ same-length-3 c = search needs
 
 returns-3 : tie.Need-returns-3
 returns-3 c =
-    let second = c .before .before .before .before .before .before in
+    let test = c .before .before .before .before .before .before .before in
+    let second = test .before .before in
     let first = second .before in
     let start = first .before .before .before in (
       few-more (c .before .before .xor-pair .ensures .0) (omega arith),
       xor-case (start .args .d) (first .representative .ensures) (second .representative2 .ensures)
-          (xor-pair _ _ (c .before .before .before .before .before .if1 .left) (c .before .before .before .before .if2 .left))
+          (xor-pair _ _ (test .if1 .left) (c .before .before .before .before .if2 .left))
           (c .before .before .xor-pair .ensures .1),
     )
 

@@ -1,14 +1,14 @@
 -- The clauses one after the other, one for each pair of signs.
 use mathlib.Core.Path.{_∙_}
 use native.Mathlib.Omega.{arith}
-use Rattle.derive.proofs.EmitLaws.{few-then, few-kept, room-then, none, then, emits-all}
+use Rattle.derive.proofs.EmitLaws.{few-then, few-gate, room-then, none, then, emits-all}
 use borrow.Author.Needs.{needs}
 use Rattle.derive.proofs.xors.xor_own.Statement.{statement}
 use Rattle.derive.proofs.xors.xor_own.Tie as tie
 use Rattle.derive.proofs.xors.xor_own.Reads as reads
 use Rattle.derive.proofs.xors.xor_own.Lts as lts
 use Rattle.literal.proofs.Literal.complement.Reads as complement-reads
-use Rattle.derive.proofs.kept.four.Reads as four-reads
+use Rattle.derive.proofs.gates.xor_clauses.Reads as xor-clauses-reads
 use Rattle.derive.proofs.subst.subst2.Reads as subst2-reads
 
 complement-requires : tie.Need-complement-requires
@@ -37,8 +37,8 @@ subst2-requires-4 c κs =
       start .pre .1,
     )
 
-four-requires : tie.Need-four-requires
-four-requires c κs = search needs
+xor-clauses-requires : tie.Need-xor-clauses-requires
+xor-clauses-requires c κs = search needs
 
 same-length : tie.Need-same-length
 same-length c = search needs
@@ -51,14 +51,14 @@ returns c =
     let first = second .before .before .before .before in
     let x = first .before .before .before .complement .ensures in
     let y = first .before .before .complement2 .ensures in (
-      few-kept (few-then (few-then (few-then (first .subst2 .ensures .0) (second .subst22 .ensures .0)) (third .subst23 .ensures .0)) (fourth .subst24 .ensures .0)) (c .four .ensures),
+      few-gate (few-then (few-then (few-then (first .subst2 .ensures .0) (second .subst22 .ensures .0)) (third .subst23 .ensures .0)) (fourth .subst24 .ensures .0)) (c .xor-clauses .ensures),
       λ t links k h.
           emits-all
           (then (first .subst2 .ensures .1 t links k (h .x) (h .y))
           (then (rw y at (second .subst22 .ensures .1 t links k (h .x) (omega (arith, y))))
           (then (rw x at (third .subst23 .ensures .1 t links k (omega (arith, x)) (h .y)))
           (then (rw (x, y) at (fourth .subst24 .ensures .1 t links k (omega (arith, x)) (omega (arith, y)))) none))))
-          (c .four .ensures),
+          (c .xor-clauses .ensures),
     )
 
 pub xor-own-spec : {M : Type 1} → statement M
@@ -71,6 +71,6 @@ xor-own-spec =
     subst2-requires-2
     subst2-requires-3
     subst2-requires-4
-    four-requires
+    xor-clauses-requires
     same-length
     returns)

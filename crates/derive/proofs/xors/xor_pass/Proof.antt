@@ -1,14 +1,14 @@
 -- The links of the gate and of its complement, the second over a complemented operand.
 use native.Mathlib.Omega.{arith}
 use Rattle.emit_laws.specs.CaseTrees.{xorTrees}
-use Rattle.derive.proofs.EmitLaws.{few-then, few-kept, emits-two}
+use Rattle.derive.proofs.EmitLaws.{few-then, few-gate, emits-two}
 use borrow.Author.Needs.{needs}
 use Rattle.derive.proofs.xors.xor_pass.Statement.{statement}
 use Rattle.derive.proofs.xors.xor_pass.Tie as tie
 use Rattle.derive.proofs.xors.xor_pass.Reads as reads
 use Rattle.derive.proofs.xors.xor_pass.Lts as lts
 use Rattle.literal.proofs.Literal.complement.Reads as complement-reads
-use Rattle.derive.proofs.kept.two.Reads as two-reads
+use Rattle.derive.proofs.gates.two_links.Reads as two-links-reads
 use Rattle.derive.proofs.subst.link2.Reads as link2-reads
 
 complement-requires : tie.Need-complement-requires
@@ -23,8 +23,8 @@ link2-requires c κs = search needs
 link2-requires-2 : tie.Need-link2-requires-2
 link2-requires-2 c κs = search needs
 
-two-requires : tie.Need-two-requires
-two-requires c κs = search needs
+two-links-requires : tie.Need-two-links-requires
+two-links-requires c κs = search needs
 
 same-length : tie.Need-same-length
 same-length c = search needs
@@ -36,10 +36,10 @@ returns c =
     let down = up .before .before .before .before in
     let n = down .before .before .before .complement .ensures in
     let y = down .before .before .complement2 .ensures in (
-      few-kept (few-then (down .link2 .ensures .0) (up .link22 .ensures .0)) (c .two .ensures),
+      few-gate (few-then (down .link2 .ensures .0) (up .link22 .ensures .0)) (c .two-links .ensures),
       λ t links k h.
           emits-two (down .link2 .ensures .1 t links k (omega arith) (h .x) (h .y))
-          (rw (n, y) at (up .link22 .ensures .1 t links k (omega (arith, n)) (h .x) (omega (arith, y)))) (c .two .ensures),
+          (rw (n, y) at (up .link22 .ensures .1 t links k (omega (arith, n)) (h .x) (omega (arith, y)))) (c .two-links .ensures),
     )
 
 pub xor-pass-spec : {M : Type 1} → statement M
@@ -50,6 +50,6 @@ xor-pass-spec =
     complement-requires-2
     link2-requires
     link2-requires-2
-    two-requires
+    two-links-requires
     same-length
     returns)

@@ -1,15 +1,15 @@
 -- The first and the last clause over the representatives, and their cut; the complement stands for true and has no link.
 use native.Mathlib.Omega.{arith}
 use Rattle.emit_laws.specs.CaseTrees.{xorTrees}
-use Rattle.derive.proofs.EmitLaws.{few-old, few-then, few-kept, emits-old, emits-cut, emits-two}
+use Rattle.derive.proofs.EmitLaws.{few-old, few-then, few-gate, emits-old, emits-cut, emits-two}
 use borrow.Author.Needs.{needs}
 use Rattle.derive.proofs.xors.xor_same.Statement.{statement}
 use Rattle.derive.proofs.xors.xor_same.Tie as tie
 use Rattle.derive.proofs.xors.xor_same.Reads as reads
 use Rattle.derive.proofs.xors.xor_same.Lts as lts
 use Rattle.literal.proofs.Literal.complement.Reads as complement-reads
-use Rattle.derive.proofs.kept.two.Reads as two-reads
-use Rattle.derive.proofs.lines.cut.Reads as cut-reads
+use Rattle.derive.proofs.gates.two_links.Reads as two-links-reads
+use Rattle.derive.proofs.lines.resolve_on.Reads as resolve-on-reads
 use Rattle.derive.proofs.lines.given.Reads as given-reads
 use Rattle.derive.proofs.subst.subst2.Reads as subst2-reads
 use Rattle.table.proofs.rows.representative.Reads as representative-reads
@@ -29,14 +29,14 @@ subst2-requires-2 c κs = search needs
 representative-requires : tie.Need-representative-requires
 representative-requires c κs = search needs
 
-cut-requires : tie.Need-cut-requires
-cut-requires c κs = search needs
+resolve-on-requires : tie.Need-resolve-on-requires
+resolve-on-requires c κs = search needs
 
 given-requires : tie.Need-given-requires
 given-requires c κs = search needs
 
-two-requires : tie.Need-two-requires
-two-requires c κs = search needs
+two-links-requires : tie.Need-two-links-requires
+two-links-requires c κs = search needs
 
 same-length : tie.Need-same-length
 same-length c = search needs
@@ -49,13 +49,13 @@ returns c =
     let first = fourth .before .before .before .before in
     let x = first .before .before .before .complement .ensures in
     let y = first .before .before .complement2 .ensures in (
-      few-kept (few-then {n = 0} (few-then (few-then (first .subst2 .ensures .0) (fourth .subst22 .ensures .0)) (down .cut .ensures .0)) (few-old (c .before .given .ensures)))
-          (c .two .ensures),
+      few-gate (few-then {n = 0} (few-then (few-then (first .subst2 .ensures .0) (fourth .subst22 .ensures .0)) (down .resolve-on .ensures .0)) (few-old (c .before .given .ensures)))
+          (c .two-links .ensures),
       λ t links k h.
           emits-two
           (emits-cut (first .subst2 .ensures .1 t links k (h .x) (h .y))
-          (rw (x, y) at (fourth .subst22 .ensures .1 t links k (omega (arith, x)) (omega (arith, y)))) (rw (down .before .representative .ensures t (k .rows) (omega arith)) at (down .cut .ensures .1)))
-          (emits-old _ _ 0 (c .before .given .ensures)) (c .two .ensures),
+          (rw (x, y) at (fourth .subst22 .ensures .1 t links k (omega (arith, x)) (omega (arith, y)))) (rw (down .before .representative .ensures t (k .rows) (omega arith)) at (down .resolve-on .ensures .1)))
+          (emits-old _ _ 0 (c .before .given .ensures)) (c .two-links .ensures),
     )
 
 pub xor-same-spec : {M : Type 1} → statement M
@@ -67,8 +67,8 @@ xor-same-spec =
     subst2-requires
     subst2-requires-2
     representative-requires
-    cut-requires
+    resolve-on-requires
     given-requires
-    two-requires
+    two-links-requires
     same-length
     returns)

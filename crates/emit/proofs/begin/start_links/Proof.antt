@@ -6,7 +6,7 @@ use native.Mathlib.Omega.{arith}
 use denote.Ref.{now}
 use lib.ListN.{length, length-replicate}
 use Rattle.fold_laws.specs.Table.{Entry}
-use Rattle.table.specs.Rows.{rowWidth, Holds}
+use Rattle.table.specs.Rows.{rowWidth, HoldsTable}
 use Rattle.table.specs.Links.{Keeps}
 use Rattle.emit_laws.specs.Emit.{startLinks}
 use Rattle.emit.proofs.BeginLaws.{keeps-none, start-more}
@@ -22,7 +22,7 @@ Inv-loop work₀ start inputs k₀ work k =
     (k ≤ inputs)
     × (length work ≡ length work₀)
     × Keeps work start (startLinks k)
-    × ((t : List Entry) → Holds work₀ t → rowWidth * length t ≤ start → Holds work t)
+    × ((t : List Entry) → HoldsTable work₀ t → rowWidth * length t ≤ start → HoldsTable work t)
 
 abbrev μ-loop : tie.MeasureT-loop
 μ-loop work₀ start inputs k₀ work k = inputs - k

@@ -20,21 +20,23 @@ representative-requires-2 c κs = search needs
 
 returns : tie.Need-returns
 returns c t h x y =
-    let d = c .before .before .before .before .args .d in
-    let p = c .before .before .representative .ensures t h x in
-    let q = c .before .representative2 .ensures t h y in
-    normal-kept (repOf t) false (literalsOf d) (literalsOf d) (numbersOf d) (numbersOf d) refl refl (rw (p, q) at (c .if1 .taken))
+    let second = c .before .before .before in
+    let first = second .before in
+    let d = first .before .before .args .d in
+    normal-kept (repOf t) false (literalsOf d) (literalsOf d) (numbersOf d) (numbersOf d) refl refl
+    (rw (first .representative .ensures t h x, second .representative2 .ensures t h y) at (c .if1 .taken))
 
 swap-and-requires : tie.Need-swap-and-requires
 swap-and-requires c κs = search needs
 
 returns-2 : tie.Need-returns-2
 returns-2 c t h x y =
-    let d = c .before .before .before .before .before .args .d in
-    let p = c .before .before .before .representative .ensures t h x in
-    let q = c .before .before .representative2 .ensures t h y in
+    let second = c .before .before .before .before in
+    let first = second .before in
+    let d = first .before .before .args .d in
     let s = c .swap-and .ensures in
-    let n = normal-swapped (repOf t) false (literalsOf d) (literalsOf d) (numbersOf d) (numbersOf d) refl refl (rw (p, q) at (c .before .if1 .left)) in
+    let n = normal-swapped (repOf t) false (literalsOf d) (literalsOf d) (numbersOf d) (numbersOf d) refl refl
+    (rw (first .representative .ensures t h x, second .representative2 .ensures t h y) at (c .before .if1 .left)) in
     (s .0 ∙ n .0, s .1 ∙ n .1)
 
 pub normal-and-spec : {M : Type 1} → statement M

@@ -5,46 +5,49 @@ use Rattle.emit.proofs.outputs.next_out.Statement.{statement}
 use Rattle.emit.proofs.outputs.next_out.Tie as tie
 use Rattle.emit.proofs.outputs.next_out.Reads as reads
 use Rattle.emit.proofs.outputs.next_out.Lts as lts
-use Rattle.derive.proofs.lines.cut.Reads as cut-reads
+use Rattle.derive.proofs.lines.resolve_on.Reads as resolve-on-reads
 use Rattle.emit.proofs.outputs.out.Reads as out-reads
+use Rattle.literal.proofs.Literal.positive.Reads as positive-reads
 
-add-cut : tie.Need-add-cut
-add-cut c = search needs
+add-resolve-on : tie.Need-add-resolve-on
+add-resolve-on c = search needs
 
-mul-cut : tie.Need-mul-cut
-mul-cut c = search needs
+positive-requires : tie.Need-positive-requires
+positive-requires c κs = search needs
 
-cut-requires : tie.Need-cut-requires
-cut-requires c κs = search needs
+resolve-on-requires : tie.Need-resolve-on-requires
+resolve-on-requires c κs = search needs
 
 out-requires : tie.Need-out-requires
 out-requires c κs = search needs
 
-mul-cut-2 : tie.Need-mul-cut-2
-mul-cut-2 c = search needs
+positive-requires-2 : tie.Need-positive-requires-2
+positive-requires-2 c κs = search needs
 
-cut-requires-2 : tie.Need-cut-requires-2
-cut-requires-2 c κs = search needs
+resolve-on-requires-2 : tie.Need-resolve-on-requires-2
+resolve-on-requires-2 c κs = search needs
 
 same-length : tie.Need-same-length
 same-length c = search needs
 
 returns : tie.Need-returns
 returns c =
-    let half = c .before .before .before .before .before .before .before .before .before .before .cut in
-    let one = c .before .before .before .before .before .before .out in
-    let both = c .before .before .cut2 in
-    (search needs, λ t links known hx hy. emits-cut (half .ensures .1) (one .ensures .1 t links known hx hy) (both .ensures .1))
+    let one = c .before .before .before .before .before .before .before in
+    let half = one .before .before .before .before in
+    let both = c .before .before in
+    let w = half .before .positive .ensures in
+    let z = both .before .positive2 .ensures in
+    (search needs, λ t links known hx hy. emits-cut (rw w at (half .resolve-on .ensures .1)) (one .out .ensures .1 t links known hx hy) (rw z at (both .resolve-on2 .ensures .1)))
 
 pub next-out-spec : {M : Type 1} → statement M
 next-out-spec =
     tie.close
     (tie.spec
-    add-cut
-    mul-cut
-    cut-requires
+    add-resolve-on
+    positive-requires
+    resolve-on-requires
     out-requires
-    mul-cut-2
-    cut-requires-2
+    positive-requires-2
+    resolve-on-requires-2
     same-length
     returns)

@@ -1,4 +1,5 @@
 -- By the representative of x, the lines are those of the tree's case (`OutputLaws`).
+use Rattle.model.specs.Clauses.{neg}
 use mathlib.Core.Path.{_≡_, sym, _∙_}
 use native.Mathlib.Omega.{arith}
 use borrow.Author.Needs.{needs}
@@ -10,10 +11,17 @@ use Rattle.emit.proofs.outputs.out.Statement.{statement}
 use Rattle.emit.proofs.outputs.out.Tie as tie
 use Rattle.emit.proofs.outputs.out.Reads as reads
 use Rattle.emit.proofs.outputs.out.Lts as lts
-use Rattle.literal.proofs.Literal.complement.Reads as complement-reads
-use Rattle.derive.proofs.lines.cut.Reads as cut-reads
+use Rattle.derive.proofs.lines.resolve_on.Reads as resolve-on-reads
 use Rattle.derive.proofs.subst.subst2.Reads as subst2-reads
+use Rattle.literal.proofs.Literal.complement.Reads as complement-reads
+use Rattle.literal.proofs.Literal.of.Reads as of-reads
 use Rattle.table.proofs.rows.representative.Reads as representative-reads
+
+of-requires : tie.Need-of-requires
+of-requires c κs = search needs
+
+of-requires-2 : tie.Need-of-requires-2
+of-requires-2 c κs = search needs
 
 representative-requires : tie.Need-representative-requires
 representative-requires c κs = search needs
@@ -35,18 +43,20 @@ same-length c = search needs
 
 returns : tie.Need-returns
 returns c =
-    let start = c .before .before .before .before .before .before .before .before .before .before in
+    let tested = c .before .before .before .before in
+    let rep = tested .before .before .before .before in
+    let start = rep .before .before .before .before .before in
     let a = start .args in
-    let rep = c .before .before .before .before .before .before .before .representative in
-    let not-x = c .before .before .before .before .before .before .complement in
-    let not-y = c .before .before .before .before .before .complement2 in
+    let y = rep .before .of2 .ensures in
+    let x = rep .before .before .of .ensures in
+    let not-x : tested .before .before .before .complement .result .code ≡ neg (a .x) = tested .before .before .before .complement .ensures ∙ rw x in
+    let not-y : tested .before .before .complement2 .result .code ≡ neg (a .y) = tested .before .before .complement2 .ensures ∙ rw y in
     let last = c .before .before .subst2 in (
       search needs,
       λ t links known hx hy.
-          let r : repOf t (a .x) ≡ 1 =
-          sym (rep .ensures t (known .rows) (omega (arith, known .nets))) ∙ c .before .before .before .before .if1 .taken in
-          rw (← out-true (repOf t) (linkOf links) (a .k) (a .x) (a .y) r (not-x .ensures) (not-y .ensures))
-          (last .ensures .1 t links known (omega (arith, not-x .ensures)) (omega (arith, not-y .ensures))),
+          let e : rep .representative .result .code ≡ repOf t (a .x) = rw x at (rep .representative .ensures t (known .rows) (omega (arith, x, known .nets))) in
+          rw (← out-true (repOf t) (linkOf links) (a .k) (a .x) (a .y) (sym e ∙ tested .if1 .taken) not-x not-y)
+          (last .ensures .1 t links known (omega (arith, not-x)) (omega (arith, not-y))),
     )
 
 subst2-requires-2 : tie.Need-subst2-requires-2
@@ -57,14 +67,17 @@ same-length-2 c = search needs
 
 returns-2 : tie.Need-returns-2
 returns-2 c =
-    let start = c .before .before .before .before .before .before .before .before .before .before .before in
+    let first = c .before .before .before .before in
+    let rep = first .before .before .before .before .before .before in
+    let start = rep .before .before .before .before .before in
     let a = start .args in
-    let rep = c .before .before .before .before .before .before .before .before .representative in
-    let first = c .before .before .before .subst22 in (
+    let y = rep .before .of2 .ensures in
+    let x = rep .before .before .of .ensures in (
       search needs,
       λ t links known hx hy.
-          let r : repOf t (a .x) ≡ 0 = sym (rep .ensures t (known .rows) (omega (arith, known .nets))) ∙ c .if2 .taken in
-          rw (← out-false (repOf t) (linkOf links) (a .k) (a .x) (a .y) r) (first .ensures .1 t links known hx hy),
+          let e : rep .representative .result .code ≡ repOf t (a .x) = rw x at (rep .representative .ensures t (known .rows) (omega (arith, x, known .nets))) in
+          rw (← out-false (repOf t) (linkOf links) (a .k) (a .x) (a .y) (sym e ∙ c .if2 .taken))
+          (rw (x, y) at (first .subst22 .ensures .1 t links known (rw x hx) (rw y hy))),
     )
 
 add-subst2-2 : tie.Need-add-subst2-2
@@ -73,14 +86,17 @@ add-subst2-2 c = search needs
 subst2-requires-3 : tie.Need-subst2-requires-3
 subst2-requires-3 c κs = search needs
 
-cut-requires : tie.Need-cut-requires
-cut-requires c κs =
-    let room = c .before .before .before .before .before .before .before .before .before .before .before .before .before .before .before .before .pre .0 in
-    let first = c .before .before .before .before .before .before .before .before .subst22 .ensures .0 in
-    let fourth = c .before .before .before .subst23 .ensures .0 in
+resolve-on-requires : tie.Need-resolve-on-requires
+resolve-on-requires c κs =
+    let fourth = c .before .before .before in
+    let first = fourth .before .before .before .before .before .before in
+    let rep = first .before .before .before .before .before .before in
+    let room = rep .before .before .before .before .before .pre .0 in
+    let few = first .subst22 .ensures .0 in
+    let more = fourth .subst23 .ensures .0 in
     record {
-      bytes-for-all = omega (arith, room .bytes-for-all, first .lines, fourth .lines);
-      numbers = omega (arith, room .numbers, first .clauses, fourth .clauses);
+      bytes-for-all = omega (arith, room .bytes-for-all, few .lines, more .lines);
+      numbers = omega (arith, room .numbers, few .clauses, more .clauses);
     }
 
 same-length-3 : tie.Need-same-length-3
@@ -88,25 +104,29 @@ same-length-3 c = search needs
 
 returns-3 : tie.Need-returns-3
 returns-3 c =
-    let split = c .before .before .before .before .before .before .before .before .before .before .before .before .before in
-    let a = split .before .before .before .before .before .before .args in
-    let rep = split .before .before .before .representative in
-    let not-x = split .before .before .complement in
-    let not-y = split .before .complement2 in
-    let first = c .before .before .before .before .before .before .before .before .before .before .before .subst22 in
-    let fourth = c .before .before .before .before .before .before .subst23 in
-    let both = c .before .before .cut in (
+    let fourth = c .before .before .before .before .before .before in
+    let first = fourth .before .before .before .before .before .before in
+    let tested = first .before .before in
+    let rep = tested .before .before .before .before in
+    let a = rep .before .before .before .before .before .args in
+    let y = rep .before .of2 .ensures in
+    let x = rep .before .before .of .ensures in
+    let not-x : tested .before .before .before .complement .result .code ≡ neg (a .x) = tested .before .before .before .complement .ensures ∙ rw x in
+    let not-y : tested .before .before .complement2 .result .code ≡ neg (a .y) = tested .before .before .complement2 .ensures ∙ rw y in
+    let few = first .subst22 .ensures in
+    let more = fourth .subst23 .ensures in
+    let both = c .before .before .resolve-on in (
       record {
-        lines = omega (arith, first .ensures .0 .lines, fourth .ensures .0 .lines, both .ensures .0 .lines);
-        clauses = omega (arith, first .ensures .0 .clauses, fourth .ensures .0 .clauses, both .ensures .0 .clauses);
+        lines = omega (arith, few .0 .lines, more .0 .lines, both .ensures .0 .lines);
+        clauses = omega (arith, few .0 .clauses, more .0 .clauses, both .ensures .0 .clauses);
       },
       λ t links known hx hy.
-          let e : rep .result ≡ repOf t (a .x) = rep .ensures t (known .rows) (omega (arith, known .nets)) in
-          let neither-0 = c .before .before .before .before .before .before .before .before .if2 .left in
-          let neither-1 = split .if1 .left in
-          rw (← out-both (repOf t) (linkOf links) (a .k) (a .x) (a .y) (λ r. neither-0 (e ∙ r)) (λ r. neither-1 (e ∙ r)) (not-x .ensures) (not-y .ensures), ← e)
-          (emits-cut (first .ensures .1 t links known hx hy)
-          (fourth .ensures .1 t links known (omega (arith, not-x .ensures)) (omega (arith, not-y .ensures)))
+          let e : rep .representative .result .code ≡ repOf t (a .x) = rw x at (rep .representative .ensures t (known .rows) (omega (arith, x, known .nets))) in
+          let neither-0 = fourth .before .before .if2 .left in
+          let neither-1 = tested .if1 .left in
+          rw (← out-both (repOf t) (linkOf links) (a .k) (a .x) (a .y) (λ r. neither-0 (e ∙ r)) (λ r. neither-1 (e ∙ r)) not-x not-y, ← e)
+          (emits-cut (rw (x, y) at (few .1 t links known (rw x hx) (rw y hy)))
+          (more .1 t links known (omega (arith, not-x)) (omega (arith, not-y)))
           (both .ensures .1)),
     )
 
@@ -114,6 +134,8 @@ pub out-spec : {M : Type 1} → statement M
 out-spec =
     tie.close
     (tie.spec
+    of-requires
+    of-requires-2
     representative-requires
     complement-requires
     complement-requires-2
@@ -126,6 +148,6 @@ out-spec =
     returns-2
     add-subst2-2
     subst2-requires-3
-    cut-requires
+    resolve-on-requires
     same-length-3
     returns-3)

@@ -22,10 +22,11 @@ use Rattle.emit.proofs.outputs.outputs.Statement.{statement}
 use Rattle.emit.proofs.outputs.outputs.Tie as tie
 use Rattle.emit.proofs.outputs.outputs.Reads as reads
 use Rattle.emit.proofs.outputs.outputs.Lts as lts
-use Rattle.miter.proofs.both.outputs_of.Reads as outputs-of-reads
-use Rattle.derive.proofs.lines.cut.Reads as cut-reads
+use Rattle.derive.proofs.lines.resolve_on.Reads as resolve-on-reads
 use Rattle.emit.proofs.outputs.next_out.Reads as next-out-reads
 use Rattle.emit.proofs.outputs.out.Reads as out-reads
+use Rattle.literal.proofs.Literal.positive.Reads as positive-reads
+use Rattle.miter.proofs.both.outputs_of.Reads as outputs-of-reads
 
 abbrev Inv-loop : tie.InvT-loop
 Inv-loop text pair work start proof₀ kz count z first-w kw run₀ w₀ i₀ proof run w i =
@@ -188,50 +189,55 @@ loop-again c =
           (next .ensures .1 t links known (omega (arith, below .0)) (omega (arith, below .1))),
     )
 
-sub-cut : tie.Need-sub-cut Inv-loop μ-loop
-sub-cut c = small (c .before .before .before .before .before .before .before .before .before .before .before .before .before .before .before .pre .0) .some
+sub-resolve-on : tie.Need-sub-resolve-on Inv-loop μ-loop
+sub-resolve-on c = small (c .before .before .before .before .before .before .before .before .before .before .before .before .before .before .before .pre .0) .some
 
-mul-cut : tie.Need-mul-cut Inv-loop μ-loop
-mul-cut c = omega (arith, small (c .before .before .before .before .before .before .before .before .before .before .before .before .before .before .before .pre .0))
+mul-resolve-on : tie.Need-mul-resolve-on Inv-loop μ-loop
+mul-resolve-on c = omega (arith, small (c .before .before .before .before .before .before .before .before .before .before .before .before .before .before .before .pre .0))
 
-add-cut : tie.Need-add-cut Inv-loop μ-loop
-add-cut c =
+add-resolve-on : tie.Need-add-resolve-on Inv-loop μ-loop
+add-resolve-on c =
     let pre = c .before .before .before .before .before .before .before .before .before .before .before .before .before .before .before .pre in
     omega (arith, small (pre .0), pre .3)
 
-mul-cut-2 : tie.Need-mul-cut-2 Inv-loop μ-loop
-mul-cut-2 c =
-    let s = small (c .before .before .before .before .before .before .before .before .before .before .before .before .before .before .before .pre .0) in
-    omega (arith, s, c .before .before .loop .inv .2)
+positive-requires : tie.Need-positive-requires Inv-loop μ-loop
+positive-requires c κs =
+    let l = c .before .before in
+    let s = small (l .before .before .before .before .before .before .before .before .before .before .before .before .before .pre .0) in
+    omega (arith, s, l .loop .inv .2)
 
-cut-requires : tie.Need-cut-requires Inv-loop μ-loop
-cut-requires c κs =
-    let start = c .before .before .before .before .before .before .before .before .before .before .before .before .before .before .before in
+resolve-on-requires : tie.Need-resolve-on-requires Inv-loop μ-loop
+resolve-on-requires c κs =
+    let l = c .before .before .before .loop in
+    let first = c .before .before .before .before .before .before in
+    let start = first .before .before .before .before .before .before .before .before .before .before in
     let pre = start .pre in
-    let l = c .before .before .loop in
-    let first = c .before .before .before .before .before .out in
-    let bytes : length (first .last .1 .1 .0) ≡ length (now (start .args .proof)) = search needs in
+    let few = first .out .ensures .0 in
+    let bytes : length (first .out .last .1 .1 .0) ≡ length (now (start .args .proof)) = search needs in
     record {
-      bytes-for-all = omega (arith, pre .1 .bytes-for-all, l .inv .4 .lines, l .inv .0, l .inv .1, first .ensures .0 .lines, l .inv .3 ∙ bytes);
-      numbers = omega (arith, pre .1 .numbers, l .inv .4 .clauses, l .inv .0, l .inv .1, first .ensures .0 .clauses);
+      bytes-for-all = omega (arith, pre .1 .bytes-for-all, l .inv .4 .lines, l .inv .0, l .inv .1, few .lines, l .inv .3 ∙ bytes);
+      numbers = omega (arith, pre .1 .numbers, l .inv .4 .clauses, l .inv .0, l .inv .1, few .clauses);
     }
 
 same-length : tie.Need-same-length Inv-loop μ-loop
 same-length c =
-    let l = c .before .before .before .before .before .loop in
-    let first = c .before .before .before .before .before .before .before .before .out in
-    let a = c .before .before .before .before .before .before .before .before .before .before .before .before .before .before .before .before .before .before .args in
-    let start : length (first .last .1 .1 .0) ≡ length (now (a .proof)) = search needs in
-    let end : length (c .before .before .cut .last .0) ≡ length (l .proof) = search needs in
-    end ∙ l .inv .3 ∙ start
+    let l = c .before .before .before .before .before .before in
+    let first = l .before .before .before in
+    let a = first .before .before .before .before .before .before .before .before .before .before .args in
+    let start : length (first .out .last .1 .1 .0) ≡ length (now (a .proof)) = search needs in
+    let end : length (c .before .before .resolve-on .last .0) ≡ length (l .loop .proof) = search needs in
+    end ∙ l .loop .inv .3 ∙ start
 
 returns : tie.Need-returns Inv-loop μ-loop
 returns c =
-    let a = c .before .before .before .before .before .before .before .before .before .before .before .before .before .before .before .before .before .before .args in
-    let l = c .before .before .before .before .before .loop in
-    let gate = c .before .before .before .before .before .before .before .before .before .before .outputs-of in
-    let first = c .before .before .before .before .before .before .before .before .out in
-    let end = c .before .before .cut in (
+    let ended = c .before .before in
+    let left = ended .before .before .before in
+    let begun = left .before .before .before .before in
+    let a = begun .before .before .before .before .before .before .before .before .before .before .args in
+    let l = left .before .loop in
+    let gate = begun .before .before .outputs-of in
+    let first = begun .out in
+    let end = ended .resolve-on in (
       record {
         lines = omega (arith, l .inv .4 .lines, l .inv .0, l .inv .1, first .ensures .0 .lines, end .ensures .0 .lines);
         clauses = omega (arith, l .inv .4 .clauses, l .inv .0, l .inv .1, first .ensures .0 .clauses, end .ensures .0 .clauses);
@@ -246,8 +252,8 @@ returns c =
           up-to-first (repOf t) (linkOf links) gs _ (a .kz) (a .pair .outputs) (gate .result .x) (gate .result .y)
           (omega (arith, many, w .outputs, small w)) x y (first .ensures .1 t links known (omega (arith, below .0)) (omega (arith, below .1))) in
           rw (← last-tree w (repOf t) links _ (a .kz) refl k)
-          (up-to-all (repOf t) (linkOf links) gs _ (a .kz) (a .pair .outputs) (omega (arith, many, w .outputs, l .inv .1, c .before .before .before .before .loop-test .left))
-          (l .inv .5 w t links known n _ _ _ one) (end .ensures .1)),
+          (up-to-all (repOf t) (linkOf links) gs _ (a .kz) (a .pair .outputs) (omega (arith, many, w .outputs, l .inv .1, left .loop-test .left))
+          (l .inv .5 w t links known n _ _ _ one) (rw (ended .before .positive .ensures) at (end .ensures .1))),
     )
 
 pub outputs-spec : {M : Type 1} → statement M
@@ -281,10 +287,10 @@ outputs-spec =
     add-i
     loop-less
     loop-again
-    sub-cut
-    mul-cut
-    add-cut
-    mul-cut-2
-    cut-requires
+    sub-resolve-on
+    mul-resolve-on
+    add-resolve-on
+    positive-requires
+    resolve-on-requires
     same-length
     returns)

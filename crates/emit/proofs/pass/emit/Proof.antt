@@ -11,7 +11,7 @@ use Rattle.fold_laws.specs.Engine.{bothTable}
 use Rattle.emit_laws.specs.Emit.{startLinks}
 use Rattle.table.specs.Links.{Keeps}
 use Rattle.derive.specs.Known.{Known}
-use Rattle.emit.specs.declared.pass.Passed.{Passed}
+use Rattle.emit.specs.declared.pass.Progress.{Progress}
 use Rattle.emit.proofs.PassLaws.{known-first, emitted}
 use Rattle.miter.proofs.MiterLaws.{few-left, few-right}
 use borrow.Author.Needs.{needs}
@@ -99,7 +99,7 @@ returns c w h b =
     let z = c .before .before .before .before .before .before .before .before .before .before .before .before .before .before .before .before .first-z-clause in
     let zn = z .ensures .1 w in
     let start : ℕ = 8 * (1 + a .pair .inputs + a .pair .left + a .pair .right) in
-    let begin : Passed = record { lines = 0; clauses = z .result + 4 * a .pair .outputs + 3 * (a .pair .outputs - 1); next = 2 } in
+    let begin : Progress = record { lines = 0; clauses = z .result + 4 * a .pair .outputs + 3 * (a .pair .outputs - 1); next = 2 } in
     let s = c .before .before .before .before .before .before .before .before .before .before .before .before .before .before .start-links in
     let g = c .before .before .before .before .before .before .before .before .before .gates in
     let o = c .before .before .outputs in

@@ -15,26 +15,34 @@ use Rattle.emit.proofs.pass.one_gate.Tie as tie
 use Rattle.emit.proofs.pass.one_gate.Reads as reads
 use Rattle.emit.proofs.pass.one_gate.Lts as lts
 use Rattle.emit.proofs.begin.behind.Reads as behind-reads
-use Rattle.emit.proofs.pass.settled.Reads as settled-reads
+use Rattle.emit.proofs.pass.gate_lines.Reads as gate-lines-reads
+use Rattle.literal.proofs.Literal.of.Reads as of-reads
+use Rattle.literal.proofs.Literal.positive.Reads as positive-reads
 use Rattle.table.proofs.links.keep.Reads as keep-reads
 
-cast-t13 : tie.Need-cast-t13
-cast-t13 c = search needs
+cast-positive : tie.Need-cast-positive
+cast-positive c = search needs
 
-mul-t14 : tie.Need-mul-t14
-mul-t14 c = search needs
+positive-requires : tie.Need-positive-requires
+positive-requires c κs = search needs
 
-add-t15 : tie.Need-add-t15
-add-t15 c = search needs
+of-requires : tie.Need-of-requires
+of-requires c κs = search needs
 
-add-t16 : tie.Need-add-t16
-add-t16 c = search needs
+of-requires-2 : tie.Need-of-requires-2
+of-requires-2 c κs = search needs
 
 add-t17 : tie.Need-add-t17
 add-t17 c = search needs
 
-settled-requires : tie.Need-settled-requires
-settled-requires c κs = search needs
+add-t18 : tie.Need-add-t18
+add-t18 c = search needs
+
+add-t19 : tie.Need-add-t19
+add-t19 c = search needs
+
+gate-lines-requires : tie.Need-gate-lines-requires
+gate-lines-requires c κs = search needs
 
 keep-requires : tie.Need-keep-requires
 keep-requires c κs = search needs
@@ -50,10 +58,16 @@ same-length-2 c = search needs
 
 returns : tie.Need-returns
 returns c =
-    let a = c .before .before .before .before .before .before .before .before .before .before .before .before .before .args in
+    let kept = c .before .before .before in
+    let lines = kept .before .before .before .before .before in
+    let literals = lines .before .before .before in
+    let a = literals .before .before .before .before .before .args in
     let g = a .gate in
-    let f = c .before .before .before .before .before .before .before .before .settled in
-    let k = c .before .before .before .keep in
+    let own = literals .before .before .positive .ensures in
+    let x = literals .before .of .ensures in
+    let y = literals .of2 .ensures in
+    let f = lines .gate-lines in
+    let k = kept .keep in
     let n = c .behind .ensures in (
       record { lines = f .ensures .0 .lines; clauses = f .ensures .0 .clauses; next = omega (arith, n, few-each (g .op)) },
       λ t links known long h low.
@@ -62,19 +76,22 @@ returns c =
           let next = first-next t links (a .v) (g .x) (g .y) (a .at .next) long h (b .0) (b .1) in
           subst (GateDone (now (a .proof)) (a .at) _ (k .last .0) (a .start) _ t links (a .v)) (sym (meant (g .op) (g .x) (g .y)))
           (gate-done (now (a .proof)) _ (now (a .work)) (k .last .0) (a .start) (a .at) _ _ (f .result) t links (a .v) m refl refl refl refl
-          (f .ensures .1 t links known next) known long h (λ ns e. k .ensures .0 links ns (known .numbers) long e) (k .ensures .1 t (known .rows) (known .behind-rows)) n),
+          (rw (own, x, y) at (f .ensures .1 t links known (rw (own, x, y) next))) known long h (λ ns e. k .ensures .0 links ns (known .numbers) long e)
+          (k .ensures .1 t (known .rows) (known .behind-rows)) n),
     )
 
 pub one-gate-spec : {M : Type 1} → statement M
 one-gate-spec =
     tie.close
     (tie.spec
-    cast-t13
-    mul-t14
-    add-t15
-    add-t16
+    cast-positive
+    positive-requires
+    of-requires
+    of-requires-2
     add-t17
-    settled-requires
+    add-t18
+    add-t19
+    gate-lines-requires
     keep-requires
     behind-requires
     same-length

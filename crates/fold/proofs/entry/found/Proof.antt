@@ -9,8 +9,10 @@ use Rattle.fold.proofs.entry.found.Tie as tie
 use Rattle.fold.proofs.entry.found.Reads as reads
 use Rattle.fold.proofs.entry.found.Lts as lts
 use Rattle.fold.proofs.entry.signed.Reads as signed-reads
-use Rattle.table.proofs.rows.core_of.Reads as core-of-reads
+use Rattle.literal.proofs.Literal.positive.Reads as positive-reads
 use Rattle.table.proofs.buckets.find.Reads as find-reads
+use Rattle.table.proofs.rows.core_of.Reads as core-of-reads
+use Rattle.table.proofs.rows.keyless.Reads as keyless-reads
 
 find-requires : tie.Need-find-requires
 find-requires c κs = search needs
@@ -21,24 +23,31 @@ core-of-requires c κs = search needs
 signed-requires : tie.Need-signed-requires
 signed-requires c κs = search needs
 
+keyless-requires : tie.Need-keyless-requires
+keyless-requires c κs = search needs
+
 returns : tie.Need-returns
 returns c t k h n e =
-    let a = c .before .before .before .before .before .args in
-    rw e (found-old t k (a .sign) (a .a) (a .b) (a .v) n _ _ (c .before .before .before .find .ensures t k h n e) (c .before .before .if1 .taken) (c .signed .ensures ∙ ap (signed (a .sign)) (c .before .core-of .ensures t (h .rows) (omega arith))))
+    let core = c .before .before in
+    let find = core .before .before in
+    let a = find .before .before .args in
+    rw (c .keyless .ensures, e) (found-old t k (a .sign) (a .a .code) (a .b .code) (a .v) n _ _ (find .find .ensures t k h n e) (core .before .if1 .taken) (c .before .signed .ensures ∙ ap (signed (a .sign)) (core .core-of .ensures t (h .rows) (omega arith))))
 
-cast-own : tie.Need-cast-own
-cast-own c = search needs
+cast-positive : tie.Need-cast-positive
+cast-positive c = search needs
 
-mul-own : tie.Need-mul-own
-mul-own c = search needs
+positive-requires : tie.Need-positive-requires
+positive-requires c κs = search needs
 
 signed-requires-2 : tie.Need-signed-requires-2
 signed-requires-2 c κs = search needs
 
 returns-2 : tie.Need-returns-2
 returns-2 c t k h n e =
-    let a = c .before .before .before .before .args in
-    rw e (found-none t k (a .sign) (a .a) (a .b) (a .v) n _ _ (c .before .before .find .ensures t k h n e) (c .before .if1 .left) (c .signed2 .ensures))
+    let own = c .before in
+    let find = own .before .before in
+    let a = find .before .before .args in
+    rw (e, own .positive .ensures) (found-none t k (a .sign) (a .a .code) (a .b .code) (a .v) n _ _ (find .find .ensures t k h n e) (own .before .if1 .left) (rw (own .positive .ensures) at (c .signed2 .ensures)))
 
 pub found-spec : {M : Type 1} → statement M
 found-spec =
@@ -47,8 +56,9 @@ found-spec =
     find-requires
     core-of-requires
     signed-requires
+    keyless-requires
     returns
-    cast-own
-    mul-own
+    cast-positive
+    positive-requires
     signed-requires-2
     returns-2)

@@ -5,7 +5,7 @@ use mathlib.Core.List.{map}
 use native.Mathlib.Omega.{arith}
 use lib.ListN.{drop}
 use Rattle.fold_laws.specs.Engine.{movedTo, bothTable, repsApart, byReps}
-use Rattle.table.specs.Rows.{Holds}
+use Rattle.table.specs.Rows.{HoldsTable}
 use Rattle.miter.specs.Miters.{Lists}
 use Rattle.fold.proofs.PassLaws.{from-first, differ-here, differ-later, apart-none}
 use borrow.Author.Needs.{needs}
@@ -13,13 +13,14 @@ use Rattle.fold.proofs.pass.first_apart.Statement.{statement}
 use Rattle.fold.proofs.pass.first_apart.Tie as tie
 use Rattle.fold.proofs.pass.first_apart.Reads as reads
 use Rattle.fold.proofs.pass.first_apart.Lts as lts
+use Rattle.literal.proofs.Literal.of.Reads as of-reads
 use Rattle.miter.proofs.both.outputs_of.Reads as outputs-of-reads
 use Rattle.table.proofs.rows.representative.Reads as representative-reads
 
 abbrev Inv-loop : tie.InvT-loop
 Inv-loop text pair work outputs k₀ k =
     (k ≤ outputs)
-    × ((w : Lists text pair) → Holds work (bothTable (w .left) (w .right)) → byReps (w .left) (w .right) ≡ repsApart (1 + k) (bothTable (w .left) (w .right)) (drop k (w .left .outs)) (drop k (map (movedTo (w .left)) (w .right .outs))))
+    × ((w : Lists text pair) → HoldsTable work (bothTable (w .left) (w .right)) → byReps (w .left) (w .right) ≡ repsApart (1 + k) (bothTable (w .left) (w .right)) (drop k (w .left .outs)) (drop k (map (movedTo (w .left)) (w .right .outs))))
 
 abbrev μ-loop : tie.MeasureT-loop
 μ-loop text pair work outputs k₀ k = outputs - k
@@ -30,8 +31,14 @@ loop-holds c = (omega arith, λ w h. from-first (w .left) (w .right))
 outputs-of-requires : tie.Need-outputs-of-requires Inv-loop μ-loop
 outputs-of-requires c κs = search needs
 
+of-requires : tie.Need-of-requires Inv-loop μ-loop
+of-requires c κs = search needs
+
 representative-requires : tie.Need-representative-requires Inv-loop μ-loop
 representative-requires c κs = search needs
+
+of-requires-2 : tie.Need-of-requires-2 Inv-loop μ-loop
+of-requires-2 c κs = search needs
 
 representative-requires-2 : tie.Need-representative-requires-2 Inv-loop μ-loop
 representative-requires-2 c κs = search needs
@@ -41,12 +48,14 @@ add-k c = search needs
 
 returns : tie.Need-returns Inv-loop μ-loop
 returns c w h =
-    let l = c .before .before .before .before .before .loop in
-    let g = c .before .before .before .outputs-of in
-    let x = c .before .before .representative in
-    let y = c .before .representative2 in
+    let y = c .before .before .before in
+    let x = y .before .before in
+    let gate = x .before .before in
+    let l = gate .before .before .loop in
+    let g = gate .outputs-of in
     let t = bothTable (w .left) (w .right) in
-    let e = differ-here (w .left) (w .right) (w .alike) (l .k) _ _ (g .result) (omega (arith, w .outputs)) (g .ensures w) (x .ensures t h) (y .ensures t h) (c .if1 .taken) in
+    let e = differ-here (w .left) (w .right) (w .alike) (l .k) _ _ (g .result) (omega (arith, w .outputs)) (g .ensures w)
+    (rw (x .before .of .ensures) at (x .representative .ensures t h)) (rw (y .before .of2 .ensures) at (y .representative2 .ensures t h)) (c .if1 .taken) in
     omega (arith, l .inv .1 w h ∙ e)
 
 loop-less : tie.Need-loop-less Inv-loop μ-loop
@@ -56,13 +65,15 @@ loop-again : tie.Need-loop-again Inv-loop μ-loop
 loop-again c = (
   omega arith,
   λ w h.
-      let l = c .before .before .before .before .before .loop in
-      let g = c .before .before .before .outputs-of in
-      let x = c .before .before .representative in
-      let y = c .before .representative2 in
+      let y = c .before .before .before in
+      let x = y .before .before in
+      let gate = x .before .before in
+      let l = gate .before .before .loop in
+      let g = gate .outputs-of in
       let t = bothTable (w .left) (w .right) in
       l .inv .1 w h
-      ∙ differ-later (w .left) (w .right) (w .alike) (l .k) _ _ (g .result) (omega (arith, w .outputs)) (g .ensures w) (x .ensures t h) (y .ensures t h) (c .if1 .left),
+      ∙ differ-later (w .left) (w .right) (w .alike) (l .k) _ _ (g .result) (omega (arith, w .outputs)) (g .ensures w)
+      (rw (x .before .of .ensures) at (x .representative .ensures t h)) (rw (y .before .of2 .ensures) at (y .representative2 .ensures t h)) (c .if1 .left),
 )
 
 returns-2 : tie.Need-returns-2 Inv-loop μ-loop
@@ -78,7 +89,9 @@ first-apart-spec =
     μ-loop
     loop-holds
     outputs-of-requires
+    of-requires
     representative-requires
+    of-requires-2
     representative-requires-2
     add-k
     returns

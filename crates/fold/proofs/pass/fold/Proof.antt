@@ -5,7 +5,7 @@ use native.Mathlib.Omega.{arith}
 use denote.Ref.{now}
 use lib.ListN.{length}
 use Rattle.model.specs.Miter.{gatesOf}
-use Rattle.table.specs.Rows.{entryOf, Holds}
+use Rattle.table.specs.Rows.{entryOf, HoldsTable}
 use Rattle.table.specs.Buckets.{Indexed}
 use Rattle.miter.specs.Miters.{Lists}
 use Rattle.laws.specs.MiterOrder.{length-gates}
@@ -62,10 +62,12 @@ entry-requires c κs = search needs
 
 insert-requires : tie.Need-insert-requires Inv-loop μ-loop
 insert-requires c κs =
-    let s = c .before .before .before .before .before .before .before .before .before .before .before .before .before .before in
-    let l = c .before .before .before .before .before .loop in
+    let looped = c .before .before .before .before .before in
+    let bases = looped .before .before .before in
+    let s = bases .before .before .before .before .before .before in
+    let l = looped .loop in
     let w = s .pre .0 in
-    let same : length (c .before .before .before .before .before .before .before .before .set-bases .last .0) ≡ length (now (s .args .work)) = search needs in
+    let same : length (bases .set-bases .last .0) ≡ length (now (s .args .work)) = search needs in
     record {
       inside = omega arith;
       few = omega (arith, few-left w, few-right w, w .inputs, w .alike .left .inputs);
@@ -73,7 +75,10 @@ insert-requires c κs =
     }
 
 add-k : tie.Need-add-k Inv-loop μ-loop
-add-k c = let w = c .before .before .before .before .before .before .before .before .before .before .before .before .before .before .before .before .before .pre .0 in omega (arith, few-left w, few-right w)
+add-k c =
+    let looped = c .before .before .before .before .before .before .before .before in
+    let w = looped .before .before .before .before .before .before .before .before .before .pre .0 in
+    omega (arith, few-left w, few-right w)
 
 loop-less : tie.Need-loop-less Inv-loop μ-loop
 loop-less c = search needs
@@ -93,13 +98,13 @@ loop-again c =
 
 same-length : tie.Need-same-length Inv-loop μ-loop
 same-length c =
-    let b = c .before .before .before .before .set-bases in
-    c .before .loop .inv .1 ∙ (let s : length (b .last .0) ≡ length (now (c .before .before .before .before .before .before .before .before .before .before .args .work)) = search needs in s)
+    let bases = c .before .before .before .before in
+    c .before .loop .inv .1 ∙ (let s : length (bases .set-bases .last .0) ≡ length (now (bases .before .before .before .before .before .before .args .work)) = search needs in s)
 
 returns : tie.Need-returns Inv-loop μ-loop
 returns c w =
     let l = c .before .loop in
-    subst (Holds (l .work))
+    subst (HoldsTable (l .work))
     (after-all (w .left .inputs) (gatesOf (w .left) (w .right)) (l .k) (omega (arith, length-gates (w .left) (w .right) (w .alike), w .left-gates, w .right-gates)))
     (l .inv .2 w .rows)
 

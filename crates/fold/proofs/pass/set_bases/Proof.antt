@@ -1,4 +1,5 @@
 -- The invariant: the entries of the nets below k stand.
+use Rattle.table.specs.Rows.{entryOf}
 use Prim.Native.Nat.{ℕ, _+_, _-_, _≤_}
 use mathlib.Core.Path.{_≡_, refl, sym, _∙_, subst}
 use native.Mathlib.Omega.{arith}
@@ -13,8 +14,10 @@ use Rattle.fold.proofs.pass.set_bases.Statement.{statement}
 use Rattle.fold.proofs.pass.set_bases.Tie as tie
 use Rattle.fold.proofs.pass.set_bases.Reads as reads
 use Rattle.fold.proofs.pass.set_bases.Lts as lts
+use Rattle.literal.proofs.Literal.positive.Reads as positive-reads
 use Rattle.table.proofs.buckets.empty.Reads as empty-reads
 use Rattle.table.proofs.buckets.insert.Reads as insert-reads
+use Rattle.table.proofs.rows.keyless.Reads as keyless-reads
 
 abbrev Inv-loop : tie.InvT-loop
 Inv-loop work₀ nets inputs k₀ work k = (k ≤ 1 + inputs) × (length work ≡ length work₀) × Indexed work nets (model.bases 0 k)
@@ -31,11 +34,14 @@ loop-holds c = (omega arith, refl, rw bases-none (c .before .before .empty .ensu
 add-loop : tie.Need-add-loop Inv-loop μ-loop
 add-loop c = search needs
 
-cast-t13 : tie.Need-cast-t13 Inv-loop μ-loop
-cast-t13 c = search needs
+cast-positive : tie.Need-cast-positive Inv-loop μ-loop
+cast-positive c = search needs
 
-mul-t14 : tie.Need-mul-t14 Inv-loop μ-loop
-mul-t14 c = search needs
+positive-requires : tie.Need-positive-requires Inv-loop μ-loop
+positive-requires c κs = search needs
+
+keyless-requires : tie.Need-keyless-requires Inv-loop μ-loop
+keyless-requires c κs = search needs
 
 insert-requires : tie.Need-insert-requires Inv-loop μ-loop
 insert-requires c κs = search needs
@@ -48,11 +54,13 @@ loop-less c = search needs
 
 loop-again : tie.Need-loop-again Inv-loop μ-loop
 loop-again c =
-    let l = c .before .before .before .before .before .loop in
-    let e = c .before .before .insert in (
+    let e = c .before .before in
+    let own = e .before in
+    let l = own .before .before .before .before .loop in
+    let is : entryOf (own .keyless .result) ≡ model.baseEntry (l .k) = own .keyless .ensures ∙ rw (own .before .positive .ensures) in (
       omega arith,
-      (let s : length (e .last .0) ≡ length (l .work) = search needs in s) ∙ l .inv .1,
-      subst (Indexed (e .last .0) _) (sym (bases-more (l .k))) (e .ensures (model.bases 0 (l .k)) (l .inv .2) (length-bases 0 (l .k))),
+      (let s : length (e .insert .last .0) ≡ length (l .work) = search needs in s) ∙ l .inv .1,
+      subst (Indexed (e .insert .last .0) _) (sym (bases-more (l .k))) (rw is at (e .insert .ensures (model.bases 0 (l .k)) (l .inv .2) (length-bases 0 (l .k)))),
     )
 
 same-length : tie.Need-same-length Inv-loop μ-loop
@@ -76,8 +84,9 @@ set-bases-spec =
     empty-requires
     loop-holds
     add-loop
-    cast-t13
-    mul-t14
+    cast-positive
+    positive-requires
+    keyless-requires
     insert-requires
     add-k
     loop-less

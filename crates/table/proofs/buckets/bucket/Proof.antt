@@ -11,8 +11,14 @@ use Rattle.table.proofs.buckets.bucket.Lts as lts
 returns : tie.Need-returns
 returns c = (no-key _ _ _ _ (c .if1 .taken), omega arith)
 
+cast-mixed : tie.Need-cast-mixed
+cast-mixed c = search needs
+
 mul-mixed : tie.Need-mul-mixed
 mul-mixed c = search needs
+
+cast-mixed-2 : tie.Need-cast-mixed-2
+cast-mixed-2 c = search needs
 
 mul-mixed-2 : tie.Need-mul-mixed-2
 mul-mixed-2 c = search needs
@@ -35,27 +41,32 @@ sub-result c = search needs
 mul-result-2 : tie.Need-mul-result-2
 unfolding mixed
 mul-result-2 c =
-    let a = c .before .args in
-    omega (arith, scaled (a .nets) (a .kind) (a .a) (a .b) (c .before .pre .0))
+    let start = c .before .before .before .before in
+    let a = start .args in
+    omega (arith, scaled (a .nets) (a .kind) (a .a .code) (a .b .code) (start .pre .0))
 
 add-result : tie.Need-add-result
 unfolding mixed
 add-result c =
-    let a = c .before .args in
-    omega (arith, scaled-low (a .nets) (a .kind) (a .a) (a .b) (c .before .pre .0))
+    let start = c .before .before .before .before in
+    let a = start .args in
+    omega (arith, scaled-low (a .nets) (a .kind) (a .a .code) (a .b .code) (start .pre .0))
 
 returns-2 : tie.Need-returns-2
 unfolding mixed
 returns-2 c =
-    let a = c .before .args in
-    (some-key (a .nets) (a .kind) (a .a) (a .b) (c .if1 .left), omega (arith, scaled-low (a .nets) (a .kind) (a .a) (a .b) (c .before .pre .0)))
+    let start = c .before .before .before .before in
+    let a = start .args in
+    (some-key (a .nets) (a .kind) (a .a .code) (a .b .code) (c .before .before .if1 .left), omega (arith, scaled-low (a .nets) (a .kind) (a .a .code) (a .b .code) (start .pre .0)))
 
 pub bucket-spec : {M : Type 1} → statement M
 bucket-spec =
     tie.close
     (tie.spec
     returns
+    cast-mixed
     mul-mixed
+    cast-mixed-2
     mul-mixed-2
     add-mixed
     mul-mixed-3

@@ -22,7 +22,7 @@ use Rattle.table.proofs.rows.fits.Reads as fits-reads
 
 abbrev Inv-loop : tie.InvT-loop
 Inv-loop work nets v kind a b head next₀ found₀ next found =
-    (next ≤ v) × ((t : List model.Entry) (k : Bool) → Indexed work nets t → length t ≡ v → kind ≡ model.kindOf k → Walk nets t k a b v next found)
+    (next ≤ v) × ((t : List model.Entry) (k : Bool) → Indexed work nets t → length t ≡ v → kind ≡ model.kindOf k → Walk nets t k (a .code) (b .code) v next found)
 
 abbrev μ-loop : tie.MeasureT-loop
 μ-loop work nets v kind a b head next₀ found₀ next found = next
@@ -47,7 +47,7 @@ loop-holds c =
     let a = c .before .before .before .args in
     let g = c .before .bucket .ensures in (
       c .at-most .ensures .0,
-      λ t k x n e. walk-begins (a .nets) t k (a .a) (a .b) (a .v) (now (a .work)) x n (c .at-most .result) _ (g .0 ∙ rw e) (g .1) (c .at-most .ensures .1),
+      λ t k x n e. walk-begins (a .nets) t k (a .a .code) (a .b .code) (a .v) (now (a .work)) x n (c .at-most .result) _ (g .0 ∙ rw e) (g .1) (c .at-most .ensures .1),
     )
 
 sub-u : tie.Need-sub-u Inv-loop μ-loop
@@ -77,11 +77,11 @@ loop-again c =
     let f = c .before .before .fits2 .ensures in (
       omega (arith, c .at-most2 .ensures .0),
       λ t k x n e.
-          let w : Walk (a .nets) t k (a .a) (a .b) (a .v) (suc u) (l .found) = rw m (l .inv .1 t k x n e) in
-          walk-on (a .nets) t k (a .a) (a .b) (a .v) (now (a .work)) x n (c .at-most2 .result) u (l .found) (c .before .if1 .found) (omega arith) w
+          let w : Walk (a .nets) t k (a .a .code) (a .b .code) (a .v) (suc u) (l .found) = rw m (l .inv .1 t k x n e) in
+          walk-on (a .nets) t k (a .a .code) (a .b .code) (a .v) (now (a .work)) x n (c .at-most2 .result) u (l .found) (c .before .if1 .found) (omega arith) w
           (⊎-elim
-          (λ q. q .1 ∙ sym (search-here k (a .a) (a .b) t (a .v) u (omega arith) (sym (f t k (x .rows) (omega arith) e) ∙ q .0 .taken)))
-          (λ q. q .1 ∙ w .first ∙ sym (search-next k (a .a) (a .b) t (a .v) u (omega arith) (sym (f t k (x .rows) (omega arith) e) ∙ q .0 .left)))
+          (λ q. q .1 ∙ sym (search-here k (a .a .code) (a .b .code) t (a .v) u (omega arith) (sym (f t k (x .rows) (omega arith) e) ∙ q .0 .taken)))
+          (λ q. q .1 ∙ w .first ∙ sym (search-next k (a .a .code) (a .b .code) t (a .v) u (omega arith) (sym (f t k (x .rows) (omega arith) e) ∙ q .0 .left)))
           (c .before .if1 .came))
           (c .at-most2 .ensures .1),
     )

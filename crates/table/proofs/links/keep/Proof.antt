@@ -5,7 +5,7 @@ use mathlib.Core.List.{List, [], _∷_, _++_}
 use native.Mathlib.Omega.{arith}
 use denote.Ref.{now}
 use lib.ListN.{length-set}
-use Rattle.table.specs.Rows.{Holds}
+use Rattle.table.specs.Rows.{HoldsTable}
 use Rattle.table.specs.Links.{linkWidth, Keeps}
 use Rattle.table.proofs.LinkLaws.{four-stored, kept, rows-stay}
 use borrow.Author.Needs.{needs}
@@ -75,7 +75,7 @@ returns c =
     let e = sym (four-stored (now (a .work)) p (a .t4)) in (
       λ links ns k n f.
           subst (λ (w : List ℕ). Keeps w (a .start) (links ++ (ns ∷ []))) e (kept (now (a .work)) (a .start) (a .v) (a .t4) (c .pre) links ns k n f),
-      λ t h s. subst (λ (w : List ℕ). Holds w t) e (rows-stay (now (a .work)) (a .start) (a .v) (a .t4) (c .pre) t h s),
+      λ t h s. subst (λ (w : List ℕ). HoldsTable w t) e (rows-stay (now (a .work)) (a .start) (a .v) (a .t4) (c .pre) t h s),
     )
 
 pub keep-spec : {M : Type 1} → statement M

@@ -1,26 +1,30 @@
 -- The row's last number in use (`core-at`).
+use mathlib.Core.Path.{_∙_}
 use Rattle.table.proofs.RowLaws.{core-at}
 use borrow.Author.Needs.{needs}
 use Rattle.table.proofs.rows.core_of.Statement.{statement}
 use Rattle.table.proofs.rows.core_of.Tie as tie
 use Rattle.table.proofs.rows.core_of.Reads as reads
 use Rattle.table.proofs.rows.core_of.Lts as lts
+use Rattle.literal.proofs.Literal.of.Reads as of-reads
 
-mul-result : tie.Need-mul-result
-mul-result c = search needs
+mul-of : tie.Need-mul-of
+mul-of c = search needs
 
-add-result : tie.Need-add-result
-add-result c = search needs
+add-of : tie.Need-add-of
+add-of c = search needs
 
-mul-result-2 : tie.Need-mul-result-2
-mul-result-2 c = search needs
+mul-of-2 : tie.Need-mul-of-2
+mul-of-2 c = search needs
 
-shared-slice-read-result : tie.Need-shared-slice-read-result
-shared-slice-read-result c = search needs
+shared-slice-read-of : tie.Need-shared-slice-read-of
+shared-slice-read-of c = search needs
+
+of-requires : tie.Need-of-requires
+of-requires c κs = search needs
 
 returns : tie.Need-returns
-returns c = λ t h n. core-at h n
+returns c t h n = c .of .ensures ∙ core-at h n
 
 pub core-of-spec : {M : Type 1} → statement M
-core-of-spec =
-    tie.close (tie.spec mul-result add-result mul-result-2 shared-slice-read-result returns)
+core-of-spec = tie.close (tie.spec mul-of add-of mul-of-2 shared-slice-read-of of-requires returns)

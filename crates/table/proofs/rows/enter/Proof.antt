@@ -63,7 +63,7 @@ returns : tie.Need-returns
 returns c =
     let a = c .args in
     let e = a .e in
-    row-stored (now (a .work)) (rowWidth * a .v) (e .rep) (e .kind) (e .ka) (e .kb) (e .core)
+    row-stored (now (a .work)) (rowWidth * a .v) (e .rep .code) (e .kind) (e .ka .code) (e .kb .code) (e .core .code)
 
 pub enter-spec : {M : Type 1} → statement M
 enter-spec =

@@ -43,7 +43,7 @@ shared-slice-read-result : tie.Need-shared-slice-read-result
 shared-slice-read-result c = search needs
 
 returns-3 : tie.Need-returns-3
-returns-3 c = λ t k h n e. same-key h n k _ _ (c .before .before .before .if1 .left) (c .before .if2 .left) _ e
+returns-3 c = λ t k h n e. same-key h n k _ _ (c .before .before .before .before .if1 .left) (c .before .if2 .left) _ e
 
 pub fits-spec : {M : Type 1} → statement M
 fits-spec =

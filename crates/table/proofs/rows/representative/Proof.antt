@@ -1,5 +1,5 @@
 -- The first number of the net's row, complemented for an odd literal.
-use mathlib.Core.Path.{_∙_}
+use mathlib.Core.Path.{sym, _∙_}
 use Rattle.table.proofs.RowLaws.{even-rep, odd-rep}
 use borrow.Author.Needs.{needs}
 use Rattle.table.proofs.rows.representative.Statement.{statement}
@@ -7,6 +7,12 @@ use Rattle.table.proofs.rows.representative.Tie as tie
 use Rattle.table.proofs.rows.representative.Reads as reads
 use Rattle.table.proofs.rows.representative.Lts as lts
 use Rattle.literal.proofs.Literal.complement.Reads as complement-reads
+use Rattle.literal.proofs.Literal.of.Reads as of-reads
+use Rattle.literal.proofs.Literal.sign.Reads as sign-reads
+use Rattle.literal.proofs.Literal.variable.Reads as variable-reads
+
+variable-requires : tie.Need-variable-requires
+variable-requires c κs = search needs
 
 cast-at : tie.Need-cast-at
 cast-at c = search needs
@@ -14,33 +20,51 @@ cast-at c = search needs
 mul-at : tie.Need-mul-at
 mul-at c = search needs
 
+of-requires : tie.Need-of-requires
+of-requires c κs = search needs
+
 returns : tie.Need-returns
 returns c = search needs
 
-mul-rep : tie.Need-mul-rep
-mul-rep c = search needs
+mul-of : tie.Need-mul-of
+mul-of c = search needs
 
-shared-slice-read-rep : tie.Need-shared-slice-read-rep
-shared-slice-read-rep c = search needs
+shared-slice-read-of : tie.Need-shared-slice-read-of
+shared-slice-read-of c = search needs
+
+of-requires-2 : tie.Need-of-requires-2
+of-requires-2 c κs = search needs
+
+sign-requires : tie.Need-sign-requires
+sign-requires c κs = search needs
 
 returns-2 : tie.Need-returns-2
-returns-2 c = λ t h n. even-rep h _ n (c .if2 .taken)
+returns-2 c t h n =
+    let rep = c .before .before in
+    rep .of2 .ensures ∙ rw (rep .before .before .before .variable .ensures) (even-rep h _ n (sym (c .before .sign .ensures) ∙ c .if2 .taken))
 
 complement-requires : tie.Need-complement-requires
 complement-requires c κs = search needs
 
 returns-3 : tie.Need-returns-3
-returns-3 c = λ t h n. c .complement .ensures ∙ odd-rep h _ n (c .before .if2 .left)
+returns-3 c t h n =
+    let test = c .before in
+    let rep = test .before .before in
+    rw (c .complement .ensures, rep .of2 .ensures, rep .before .before .before .variable .ensures) (odd-rep h _ n (λ e. test .if2 .left (test .before .sign .ensures ∙ e)))
 
 pub representative-spec : {M : Type 1} → statement M
 representative-spec =
     tie.close
     (tie.spec
+    variable-requires
     cast-at
     mul-at
+    of-requires
     returns
-    mul-rep
-    shared-slice-read-rep
+    mul-of
+    shared-slice-read-of
+    of-requires-2
+    sign-requires
     returns-2
     complement-requires
     returns-3)

@@ -1,9 +1,9 @@
 -- Each branch knows the definition's test.
 use borrow.Author.Tests.{le-leb, lt-leb}
-use Rattle.fold.proofs.made.higher.Statement.{statement}
-use Rattle.fold.proofs.made.higher.Tie as tie
-use Rattle.fold.proofs.made.higher.Reads as reads
-use Rattle.fold.proofs.made.higher.Lts as lts
+use Rattle.fold.proofs.operands.higher.Statement.{statement}
+use Rattle.fold.proofs.operands.higher.Tie as tie
+use Rattle.fold.proofs.operands.higher.Reads as reads
+use Rattle.fold.proofs.operands.higher.Lts as lts
 
 returns : tie.Need-returns
 returns c = rw (le-leb _ _ (c .if1 .taken))

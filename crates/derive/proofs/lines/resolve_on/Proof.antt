@@ -2,10 +2,10 @@
 use mathlib.Core.Path.{refl}
 use Rattle.derive.proofs.LineLaws.{emits-line}
 use borrow.Author.Needs.{needs}
-use Rattle.derive.proofs.lines.cut.Statement.{statement}
-use Rattle.derive.proofs.lines.cut.Tie as tie
-use Rattle.derive.proofs.lines.cut.Reads as reads
-use Rattle.derive.proofs.lines.cut.Lts as lts
+use Rattle.derive.proofs.lines.resolve_on.Statement.{statement}
+use Rattle.derive.proofs.lines.resolve_on.Tie as tie
+use Rattle.derive.proofs.lines.resolve_on.Reads as reads
+use Rattle.derive.proofs.lines.resolve_on.Lts as lts
 use Rattle.derive.proofs.lines.resolution.Reads as resolution-reads
 use Rattle.words.proofs.write.write_resolve.Reads as write-resolve-reads
 
@@ -32,8 +32,8 @@ returns c =
     let s = c .before .before .before .before .before .before .before .before .before in
     (search needs, emits-line _ _ _ _ _ (s .pre) (c .before .before .before .before .before .before .before .resolution .ensures) (c .before .before .before .before .write-resolve .ensures) refl)
 
-pub cut-spec : {M : Type 1} → statement M
-cut-spec =
+pub resolve-on-spec : {M : Type 1} → statement M
+resolve-on-spec =
     tie.close
     (tie.spec
     resolution-requires

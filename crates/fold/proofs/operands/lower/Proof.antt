@@ -1,9 +1,9 @@
 -- Each branch knows the definition's test.
 use borrow.Author.Tests.{le-leb, lt-leb}
-use Rattle.fold.proofs.made.lower.Statement.{statement}
-use Rattle.fold.proofs.made.lower.Tie as tie
-use Rattle.fold.proofs.made.lower.Reads as reads
-use Rattle.fold.proofs.made.lower.Lts as lts
+use Rattle.fold.proofs.operands.lower.Statement.{statement}
+use Rattle.fold.proofs.operands.lower.Tie as tie
+use Rattle.fold.proofs.operands.lower.Reads as reads
+use Rattle.fold.proofs.operands.lower.Lts as lts
 
 returns : tie.Need-returns
 returns c = rw (le-leb _ _ (c .if1 .taken))

@@ -1,12 +1,12 @@
--- What two representatives make, test by test.
-use Prim.Native.Nat.{ℕ, _-_, _%_}
-use mathlib.Core.Path.{_≡_, refl}
+-- What two representatives fold to, test by test.
+use Prim.Native.Nat.{ℕ, _%_}
+use mathlib.Core.Path.{_≡_, refl, ap}
 use mathlib.Core.Bool.{Bool, true, false, not, or-true, cond}
 use native.Mathlib.Omega.{arith}
 use lib.Dec.{eqb, leb}
 use borrow.Author.Tests.{eq-eqb, ne-eqb}
-use Rattle.model.specs.Nets.{odd, xorb, bit}
-use Rattle.model.specs.Clauses.{neg}
+use Rattle.model.specs.Nets.{netOf, odd, xorb, bit}
+use Rattle.model.specs.Clauses.{positive, neg}
 use Rattle.fold_laws.specs.Signs.{bit-odd}
 use Rattle.fold_laws.specs.Cases.{andCase, xorCase, made}
 use Rattle.fold_laws.specs.Cases.Made.{is, key}
@@ -15,9 +15,9 @@ use Rattle.fold_laws.specs.Table.{ordered, part, signOf}
 -- ---- an AND
 
 module _ (a b : ℕ) where
-  pub and-nil : a ≡ 0 → is 0 ≡ made false a b
+  pub and-nil : a ≡ 0 → is a ≡ made false a b
   unfolding andCase
-  and-nil e = rw (eq-eqb a 0 e)
+  and-nil e = rw (eq-eqb a 0 e) (ap is e)
 
   module _ (z : a ≡ 0 → ⊥) where
     pub and-true : a ≡ 1 → is b ≡ made false a b
@@ -63,10 +63,10 @@ by-order k p q e f = rw (e, f) (go (leb p q))
 
 -- ---- an XOR's signs
 
-pub unsigned : (l : ℕ) → l - l % 2 ≡ part true l
+pub unsigned : (l : ℕ) → positive (netOf l) ≡ part true l
 unsigned l = go (odd l) (bit-odd l) refl
   where
-    go : (b : Bool) → l % 2 ≡ bit b → odd l ≡ b → l - l % 2 ≡ part true l
+    go : (b : Bool) → l % 2 ≡ bit b → odd l ≡ b → positive (netOf l) ≡ part true l
     go true e d = rw d (omega arith)
     go false e d = rw d (omega arith)
 
