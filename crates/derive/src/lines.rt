@@ -1,15 +1,14 @@
 // One line of the proof: a resolution, written behind those before it.
+use frame::kinds::RESOLVE_BYTES;
+use frame::resolves::write_resolve;
 use literal::Literal;
-use words::write::write_resolve;
 ghost use mathlib.Core.Path.{_≡_};
 ghost use lib.ListN.{length};
-ghost use Rattle.words.specs.Words.{resolve};
+ghost use Rattle.frame.specs.Frames.{resolve};
 ghost use Rattle.emit_laws.specs.Fields as model;
 ghost use Rattle.emit_laws.specs.Replay as replay;
 ghost use Rattle.emit_laws.specs.Trees.Tree.{old, cut as cutTree};
 ghost use Rattle.derive.specs.Emission.{Room, Few, Emits};
-
-pub const LINE_BYTES: usize = 15;
 
 // Where the proof ends: its lines, how many clauses there are then, and the number of the clause that was asked for.
 pub struct Derived {
@@ -64,7 +63,7 @@ pub fn resolve_on(proof: &mut [u8], at: Derived, a: u16, b: u16, pivot: Literal)
     let step = resolution(a, b, pivot);
     write_resolve(
         proof,
-        LINE_BYTES * at.lines,
+        RESOLVE_BYTES * at.lines,
         step.first,
         step.second,
         step.variable,

@@ -8,7 +8,6 @@ use native.Mathlib.Omega.{arith}
 use lib.ListN.{length, drop, getD}
 use lib.Seq.{drop-cons, drop-length}
 use borrow.Author.Tests.{ne-eqb}
-use Rattle.model.specs.Limits.{mostInputs, mostGates, mostOutputs}
 use Rattle.model.specs.Nets.{Gate, netOf, size as netCount}
 use Rattle.model.specs.Nets.Op.{xor}
 use Rattle.model.specs.Clauses.{positive, neg}
@@ -17,6 +16,7 @@ use Rattle.laws.specs.ListText.{below-at}
 use Rattle.laws.specs.MiterOrder.{last, shift-below, below-right}
 use Rattle.netlist.specs.declared.Pair.{Pair}
 use Rattle.netlist.specs.Again.{noGate}
+use Rattle.netlist.specs.Within.{Within}
 use Rattle.miter.specs.Miters.{Lists}
 use Rattle.miter.proofs.MiterLaws.{z-of}
 use Rattle.emit_laws.specs.Trees.{Tree, size, lay}
@@ -86,45 +86,43 @@ then-second {n} {t} {d} {u} k l h =
     let m : n + size d + 0 ≡ n + size d = omega arith in
     record { lines = rw (z, m, h .lines, h .number, append-assoc); number = omega (arith, h .count); count = omega (arith, h .count) }
 
--- the outputs gs; the z from variable z and clause kz on, the w behind those of so many
-module _ (R E : ℕ → ℕ) (gs : List Gate) (z kz count : ℕ) where
+-- the outputs gs: their z from variable z and clause kz on, the w from variable t and clause kw on; the last clause is c
+module _ (R E : ℕ → ℕ) (gs : List Gate) (t kw z kz c : ℕ) where
   -- the outputs before i were emitted, down to ¬w: with what is left they make up the whole
   pub record UpTo (p : List ℕ) (s : Derived) (whole : Tree) (i : ℕ) (q : List ℕ) (r : Derived) (w : ℕ) : Type 0 where
     pub run : Tree
     pub emits : Emits p s q r run
     pub left :
-        cut (old (kz + 4 * count + 3 * (count - 1)))
-        (chain R E run w (z + count + (i - 1)) (kz + 4 * count + 3 * (i - 1)) (z + i) (kz + 4 * i) (drop i gs))
-        (positive (last (length (drop i gs)) (z + count + (i - 1)) w))
+        cut (old c)
+        (chain R E run w (t + (i - 1)) (kw + 3 * (i - 1)) (z + i) (kz + 4 * i) (drop i gs))
+        (positive (last (length (drop i gs)) (t + (i - 1)) w))
         ≡ whole
 
   -- the first
   pub up-to-first : {p q : List ℕ} {s r : Derived} (x y : ℕ) → 0 < length gs → x ≡ getD gs 0 noGate .x → y ≡ getD gs 0 noGate .y
-      → Emits p s q r (outTree R E kz (zOf x y))
-      → UpTo p s (outsTree R E (z + count) (kz + 4 * count) z kz (kz + 4 * count + 3 * (count - 1)) gs) 1 q r z
+      → Emits p s q r (outTree R E kz (zOf x y)) → UpTo p s (outsTree R E t kw z kz c gs) 1 q r z
   up-to-first x y h ex ey f =
-      let t : z + count + (1 - 1) ≡ z + count = omega arith in
-      let kw : kz + 4 * count + 3 * (1 - 1) ≡ kz + 4 * count = omega arith in
+      let first-t : t + (1 - 1) ≡ t = omega arith in
+      let first-kw : kw + 3 * (1 - 1) ≡ kw = omega arith in
       record {
         run = outTree R E kz (getD gs 0 noGate);
         emits = rw (out-same R E kz x y (getD gs 0 noGate) ex ey) at f;
-        left = rw (t, kw, add-one z) (outs-first R E (z + count) (kz + 4 * count) z kz (kz + 4 * count + 3 * (count - 1)) gs h);
+        left = rw (first-t, first-kw, add-one z) (outs-first R E t kw z kz c gs h);
       }
 
   -- one more
   pub up-to-next : {p q m : List ℕ} {s r u : Derived} {whole : Tree} {i w : ℕ} (x y : ℕ) → 1 ≤ i → i < length gs
       → x ≡ getD gs i noGate .x → y ≡ getD gs i noGate .y → UpTo p s whole i q r w
-      → Emits q r m u
-      (cut (cut (old (kz + 4 * count + 3 * (i - 1) + 2)) (old (r .clause)) (positive w)) (outTree R E (kz + 4 * i) (zOf x y)) (positive (z + i)))
-      → UpTo p s whole (i + 1) m u (z + count + (i - 1))
+      → Emits q r m u (cut (cut (old (kw + 3 * (i - 1) + 2)) (old (r .clause)) (positive w)) (outTree R E (kz + 4 * i) (zOf x y)) (positive (z + i)))
+      → UpTo p s whole (i + 1) m u (t + (i - 1))
   unfolding chain
   up-to-next {s = s} {r} {i = i} {w} x y a b ex ey h f =
-      let k : ℕ = kz + 4 * count + 3 * (i - 1) in
+      let k : ℕ = kw + 3 * (i - 1) in
       let g : Gate = getD gs i noGate in
       let over : Then (s .clauses) (h .run) (h .run) (old (r .clause)) = rw (h .emits .number) (then-old (s .clauses) (h .run)) in
       let two : k + 2 ≡ suc (suc k) = omega arith in
-      let next-t : z + count + (i + 1 - 1) ≡ suc (z + count + (i - 1)) = omega arith in
-      let next-kw : kz + 4 * count + 3 * (i + 1 - 1) ≡ k + 3 = omega arith in
+      let next-t : t + (i + 1 - 1) ≡ suc (t + (i - 1)) = omega arith in
+      let next-kw : kw + 3 * (i + 1 - 1) ≡ k + 3 = omega arith in
       let next-z : z + (i + 1) ≡ suc (z + i) = omega arith in
       let next-kz : kz + 4 * (i + 1) ≡ kz + 4 * i + 4 = omega arith in
       record {
@@ -136,28 +134,21 @@ module _ (R E : ℕ → ℕ) (gs : List Gate) (z kz count : ℕ) where
 
   -- and the empty clause
   pub up-to-all : {p q m : List ℕ} {s r u : Derived} {whole : Tree} {i w : ℕ} → i ≡ length gs → UpTo p s whole i q r w
-      → Emits q r m u (cut (old (kz + 4 * count + 3 * (count - 1))) (old (r .clause)) (positive w)) → Emits p s m u whole
+      → Emits q r m u (cut (old c) (old (r .clause)) (positive w)) → Emits p s m u whole
   unfolding chain
   up-to-all {p} {m = m} {s} {u = u} e h f = subst (Emits p s m u) (rw (e, drop-length gs) at (h .left)) (emits-cut-left (h .emits) f)
 
 -- ---- two lists
 
--- how many nets and outputs they have at most; an output there is
-pub record Small (p : Pair) : Type 0 where
-  pub nets : p .inputs + p .left + p .right ≤ mostInputs + 2 * mostGates
-  pub some : 1 ≤ p .outputs
-  pub outputs : p .outputs ≤ mostOutputs
+-- where the parts begin, z and w by variable, kz and kw by clause: all of them are small numbers
+pub record Begin (p : Pair) (z w kz kw : ℕ) : Type 0 where
+  pub within : Within p
+  pub few : kz ≤ 10000
+  pub z-is : z ≡ 1 + p .inputs + p .left + p .right
+  pub w-is : w ≡ 1 + p .inputs + p .left + p .right + p .outputs
+  pub kw-is : kw ≡ kz + 4 * p .outputs
 
 module _ {text : List ℕ} {p : Pair} (w : Lists text p) where
-  pub small : Small p
-  small =
-      let a = w .alike .left in
-      record {
-        nets = omega (arith, a .inputs, a .gates, w .alike .right .gates, w .inputs, w .left-gates, w .right-gates);
-        some = omega (arith, a .some, w .outputs);
-        outputs = omega (arith, a .outs, w .outputs);
-      }
-
   -- a z reads nets of the lists
   pub z-below : (k : ℕ) → k < p .outputs
       → (netOf (getD (zGates (w .left) (w .right)) k noGate .x) < 1 + p .inputs + p .left + p .right)
@@ -172,8 +163,8 @@ module _ {text : List ℕ} {p : Pair} (w : Lists text p) where
       rw e (omega (arith, w .inputs, w .left-gates), omega (arith, w .inputs, w .left-gates, w .right-gates))
 
   -- the outputs' tree, by the numbers that code has at hand
-  pub last-tree : (R : ℕ → ℕ) (links : List (List ℕ)) (z kz : ℕ) → z ≡ 1 + p .inputs + p .left + p .right → kz ≡ firstZClause (w .left) (w .right)
-      → outsTree R (linkOf links) (z + p .outputs) (kz + 4 * p .outputs) z kz (kz + 4 * p .outputs + 3 * (p .outputs - 1)) (zGates (w .left) (w .right))
-      ≡ lastTree R links (w .left) (w .right)
+  pub last-tree : (R : ℕ → ℕ) (links : List (List ℕ)) (z t kz kw c : ℕ) → Begin p z t kz kw → c ≡ kz + 4 * p .outputs + 3 * (p .outputs - 1)
+      → kz ≡ firstZClause (w .left) (w .right) → outsTree R (linkOf links) t kw z kz c (zGates (w .left) (w .right)) ≡ lastTree R links (w .left) (w .right)
   unfolding lastTree firstZ
-  last-tree R links z kz e f = rw (e, f, ← w .inputs, ← w .left-gates, ← w .right-gates, ← w .outputs)
+  last-tree R links z t kz kw c b e f =
+      rw (e, b .kw-is, b .w-is, b .z-is, f, ← w .inputs, ← w .left-gates, ← w .right-gates, ← w .outputs)

@@ -4,6 +4,8 @@ use derive::lines::resolve_on;
 use derive::subst::subst2;
 use literal::Literal;
 use miter::both::outputs_of;
+use miter::clauses::first_w_clause;
+use miter::clauses::last_clause;
 use netlist::Pair;
 use table::rows::representative;
 ghost use mathlib.Core.Path.{_≡_};
@@ -89,9 +91,9 @@ pub fn outputs(
         → Emits (now (proof .entry)) at (now (proof .exit)) r (lastTree (repOf t) links (w .left) (w .right))) ⌝ }
 {
     let count = pair.outputs as u16;
-    let z = (1 + pair.inputs + pair.left + pair.right) as u16;
-    let first_w = z + count;
-    let kw = kz + 4 * count;
+    let z = pair.first_z() as u16;
+    let first_w = pair.first_w() as u16;
+    let kw = first_w_clause(pair, kz);
     let first = outputs_of(text, pair, 0);
     let mut run = out(work, start, proof, at, kz, first.x, first.y);
     let mut w = z;
@@ -107,7 +109,7 @@ pub fn outputs(
     resolve_on(
         proof,
         run,
-        kw + 3 * (count - 1),
+        last_clause(pair, kz),
         run.clause,
         Literal::positive(w),
     )

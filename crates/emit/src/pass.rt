@@ -1,6 +1,4 @@
 // All gates of both lists, one after the other, and then the outputs.
-use crate::begin::behind;
-use crate::begin::first_z_clause;
 use crate::begin::start_links;
 use crate::normal::normal_and;
 use crate::normal::normal_xor;
@@ -13,6 +11,10 @@ use derive::xors::xor_gate;
 use frame::Op;
 use literal::Literal;
 use miter::both::gate_of;
+use miter::clauses::FIRST_GATE_CLAUSE;
+use miter::clauses::behind;
+use miter::clauses::first_behind;
+use miter::clauses::first_z_clause;
 use netlist::Pair;
 use netlist::again::Gate;
 use table::links::keep;
@@ -151,7 +153,7 @@ fn gates(
     ensures done { λ r. ⌜ ((w : Lists (now (text .entry)) pair) (t : List Entry) → Known (now (work .entry)) start t (startLinks (pair .inputs))
         → length t ≡ 1 + pair .inputs + pair .left + pair .right → AllDone (now (proof .entry)) at (now (proof .exit)) (now (work .exit)) start r t (w .left) (w .right)) ⌝ }
 {
-    let first = 1 + pair.inputs;
+    let first = pair.first_gate();
     let total = pair.left + pair.right;
     let mut done = at;
     let mut i: usize = 0;
@@ -170,16 +172,14 @@ pub fn emit(text: &[u8], pair: Pair, work: &mut [u16], proof: &mut [u8]) -> usiz
     ensures { λ r. ⌜ ((w : Lists (now (text .entry)) pair) → HoldsTable (now (work .entry)) (bothTable (w .left) (w .right)) → Written (now (proof .entry)) []
         → Written (now (proof .exit)) (linesOf (w .left) (w .right)) × (r ≡ length (linesOf (w .left) (w .right)))) ⌝ }
 {
-    let nets = 1 + pair.inputs + pair.left + pair.right;
-    let start = ROW * nets;
-    let outs = pair.outputs as u16;
+    let start = ROW * pair.nets();
     let z = first_z_clause(text, pair);
-    let last = z + 4 * outs + 3 * (outs - 1);
+    let first = first_behind(pair, z);
     start_links(work, start, pair.inputs);
     let begin = Progress {
         lines: 0,
-        clauses: last,
-        next: 2,
+        clauses: first - 1,
+        next: FIRST_GATE_CLAUSE,
     };
     let done = gates(text, pair, work, start, proof, begin);
     let end = Derived {

@@ -14,13 +14,13 @@ use Rattle.model.specs.Answers.Answer.{ok, refused}
 use Rattle.model.specs.Clauses.{Clause, positive, negative, insert, join, clauseOf, gateClauses, allClauses}
 use Rattle.model.specs.Checker.{begin, stored, storedAll}
 use Rattle.model.specs.Miter.{firstGate, firstClause, lastClause, miterGates, miterVars, miter}
-use Rattle.laws.specs.MiterOrder.{length-miter}
 use Rattle.netlist.specs.declared.Pair.{Pair}
 use Rattle.netlist.specs.Again.{noGate}
 use Rattle.miter.specs.declared.variables.Definition.{Definition}
 use Rattle.steps.specs.Progress.{clausesOf, Proper, Held, Tracks}
 use Rattle.miter.specs.Miters.{Lists, Defines, gateCount, gatesUpTo, beginOf}
 use Rattle.steps.proofs.HeldLaws.{held-more}
+use Rattle.miter.proofs.MiterLaws.{gate-total}
 
 -- one variable more
 clauses-more : (t : ℕ) (gs : List Gate) (i : ℕ) (d : Gate) → i < length gs
@@ -64,36 +64,28 @@ clauses-fewer t (g ∷ gs) (suc i) (suc n) h =
 pub up-to-fewer : (a b : Netlist) (i n : ℕ) → i ≤ n → length (gatesUpTo a b i) ≤ length (gatesUpTo a b n)
 up-to-fewer a b i n h = omega (arith, clauses-fewer (firstGate a) (miterGates a b) i n h)
 
--- how many variables there are
-pub gate-total : {text : List ℕ} {p : Pair} (w : Lists text p) → length (miterGates (w .left) (w .right)) ≡ gateCount p
-gate-total {text} {p} w = length-miter (w .left) (w .right) (w .alike) ∙ rw (w .left-gates, w .right-gates, w .outputs)
+-- variable v, which is i of them, in the store behind the clauses of those before it
+module _ {text : List ℕ} {p : Pair} (w : Lists text p) (v i count : ℕ) (d : Definition) (e : v ≡ 1 + p .inputs + i) (h : i < gateCount p)
+    (def : Defines d v (getD (miterGates (w .left) (w .right)) i noGate)) (len : length (gatesUpTo (w .left) (w .right) i) ≡ count) where
+  abbrev earlier : List Clause
+  earlier = gatesUpTo (w .left) (w .right) i
 
-one-more : {text : List ℕ} {p : Pair} (w : Lists text p) (i : ℕ) (d : Definition) → i < gateCount p
-    → Defines d (1 + p .inputs + i) (getD (miterGates (w .left) (w .right)) i noGate)
-    → gatesUpTo (w .left) (w .right) (i + 1) ≡ gatesUpTo (w .left) (w .right) i ++ clausesOf (d .op) (d .n .code) (d .x .code) (d .y .code)
-one-more {text} {p} w i d h def =
-    up-to-more (w .left) (w .right) i noGate (rw (gate-total w) h)
-    ∙ ap (λ (l : List Clause). gatesUpTo (w .left) (w .right) i ++ l) (ap (λ (k : ℕ). gateClauses (1 + k + i) (getD (miterGates (w .left) (w .right)) i noGate)) (w .inputs) ∙ sym (def .same))
+  abbrev own : List Clause
+  own = clausesOf (d .op) (d .n .code) (d .x .code) (d .y .code)
 
--- the clauses of one variable more, in the store
-pub variable-held : {text : List ℕ} {p : Pair} (w : Lists text p) (store : List ℕ) (i count n : ℕ) (d : Definition) → i < gateCount p
-    → Defines d (1 + p .inputs + i) (getD (miterGates (w .left) (w .right)) i noGate) → length (gatesUpTo (w .left) (w .right) i) ≡ count
-    → n ≡ count + length (clausesOf (d .op) (d .n .code) (d .x .code) (d .y .code))
-    → Held store (gatesUpTo (w .left) (w .right) i ++ clausesOf (d .op) (d .n .code) (d .x .code) (d .y .code))
-    → Held store (gatesUpTo (w .left) (w .right) (i + 1)) × (length (gatesUpTo (w .left) (w .right) (i + 1)) ≡ n)
-variable-held {text} {p} w store i count n d h def len total held =
-    let cs : List Clause = gatesUpTo (w .left) (w .right) i in
-    let e : gatesUpTo (w .left) (w .right) (i + 1) ≡ cs ++ clausesOf (d .op) (d .n .code) (d .x .code) (d .y .code) = one-more w i d h def in
-    (subst (Held store) (sym e) held, ap length e ∙ length-append cs (clausesOf (d .op) (d .n .code) (d .x .code) (d .y .code)) ∙ omega arith)
+  one-more : gatesUpTo (w .left) (w .right) (i + 1) ≡ earlier ++ own
+  one-more =
+      let at : firstGate (w .left) + i ≡ v = omega (arith, w .inputs) in
+      up-to-more (w .left) (w .right) i noGate (omega (arith, gate-total w)) ∙ rw (at, def .same)
 
--- where there is no room for them, there is none for all
-pub variable-short : {text : List ℕ} {p : Pair} (w : Lists text p) (i count room : ℕ) (d : Definition) → i < gateCount p
-    → Defines d (1 + p .inputs + i) (getD (miterGates (w .left) (w .right)) i noGate) → length (gatesUpTo (w .left) (w .right) i) ≡ count
-    → room < count + length (clausesOf (d .op) (d .n .code) (d .x .code) (d .y .code)) → room < length (gatesUpTo (w .left) (w .right) (gateCount p))
-variable-short {text} {p} w i count room d h def len full =
-    let cs : List Clause = gatesUpTo (w .left) (w .right) i in
-    let ds : List Clause = clausesOf (d .op) (d .n .code) (d .x .code) (d .y .code) in
-    omega (arith, length-append cs ds, ap length (one-more w i d h def), up-to-fewer (w .left) (w .right) (i + 1) (gateCount p) (omega arith))
+  pub variable-held : (store : List ℕ) (n : ℕ) → n ≡ count + length own → Held store (earlier ++ own)
+      → Held store (gatesUpTo (w .left) (w .right) (i + 1)) × (length (gatesUpTo (w .left) (w .right) (i + 1)) ≡ n)
+  variable-held store n total held = (subst (Held store) (sym one-more) held, ap length one-more ∙ length-append earlier own ∙ omega arith)
+
+  -- where there is no room for them, there is none for all
+  pub variable-short : (room : ℕ) → room < count + length own → room < length (gatesUpTo (w .left) (w .right) (gateCount p))
+  variable-short room full =
+      omega (arith, length-append earlier own, ap length one-more, up-to-fewer (w .left) (w .right) (i + 1) (gateCount p) (omega arith))
 
 -- ---- the first and the last clause
 
@@ -149,23 +141,9 @@ pub first-held : (store : List ℕ) (l : ℕ) → l ≡ negative 0 → Held stor
 first-held store l e h = rw (sym e) h
 
 module _ {text : List ℕ} {p : Pair} (w : Lists text p) where
-  pub few-variables : p .inputs + gateCount p ≤ 4096
-  few-variables =
-      omega (
-        arith,
-        w .alike .left .inputs,
-        w .alike .left .gates,
-        w .alike .right .gates,
-        w .alike .left .outs,
-        w .inputs,
-        w .left-gates,
-        w .right-gates,
-        w .outputs,
-      )
-
-  pub variables-are : miterVars (w .left) (w .right) ≡ p .inputs + gateCount p + 1
+  pub variables-are : (n : ℕ) → n ≡ 1 + p .inputs + p .left + p .right + p .outputs + (p .outputs - 1) → miterVars (w .left) (w .right) ≡ n - 1 + 1
   unfolding miterVars
-  variables-are = rw (gate-total w, w .inputs) (omega arith)
+  variables-are n e = omega (arith, gate-total w, w .inputs)
 
   pub all-short : (room : ℕ) → room < length (gatesUpTo (w .left) (w .right) (gateCount p)) → beginOf room (w .left) (w .right) ≡ refused 8 0
   all-short room h =

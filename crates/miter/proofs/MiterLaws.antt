@@ -1,29 +1,30 @@
 -- The miter's variables, one by one: what the code builds for each has the clauses of the definition's gate.
 use Prim.Native.Nat.{ℕ, zero, suc, _+_, _-_, _*_, _/_, _≤_, _<_}
-use mathlib.Core.Path.{_≡_, refl, sym, ap, ap₂, _∙_}
+use mathlib.Core.Path.{_≡_, refl, sym, ap, ap₂, _∙_, subst}
+use mathlib.Core.Bool.{true}
 use mathlib.Core.List.{List, [], _∷_, _++_, map}
 use native.Mathlib.Omega.{arith}
-use lib.ListN.{length, getD, length-append, length-map, List·getD-append}
+use lib.ListN.{length, getD, length-append, List·getD-append}
 use lib.Seq.{getD-append-add}
 use borrow.Author.Tests.{le-leb, lt-leb}
 use Rattle.model.specs.Limits.{mostGates, highestVariable}
 use Rattle.model.specs.Nets as nets
-use Rattle.model.specs.Nets.{Gate, Netlist, netOf}
+use Rattle.model.specs.Nets.{Gate, Netlist, readsBelow}
 use Rattle.model.specs.Clauses.{positive, negative, neg, opClauses, gateClauses}
-use Rattle.model.specs.Miter.{shift, shiftGate, zs, ws, firstZ, rightGates, gatesOf, zGates, wGates, miterGates}
+use Rattle.model.specs.Miter.{shift, shiftGate, zs, ws, firstGate, firstZ, firstW, rightGates, gatesOf, zGates, wGates, miterGates}
 use Rattle.laws.specs.Literals.{literals-below}
 use Rattle.laws.specs.ListText.{ordered-at}
 use Rattle.laws.specs.Pairs as pairs
-use Rattle.laws.specs.MiterOrder.{length-z}
+use Rattle.laws.specs.MiterOrder.{length-gates, length-z, length-miter, ordered-miter}
 use Rattle.frame.specs.declared.Op.{Op}
 use Rattle.frame.specs.declared.Op.the-variants.{And, Xor}
 use Rattle.literal.specs.declared.Literal.{Literal}
 use Rattle.netlist.specs.declared.Pair.{Pair}
 use Rattle.netlist.specs.declared.again.Gate as again
 use Rattle.netlist.specs.Again.{opOf, gateMeant, noGate}
+use Rattle.netlist.specs.Within.{Within}
 use Rattle.miter.specs.declared.variables.Definition.{Definition}
-use Rattle.steps.specs.Progress.{clausesOf}
-use Rattle.miter.specs.Miters.{Lists, Defines, zGate, wVariable, wGate}
+use Rattle.miter.specs.Miters.{Lists, Defines, gateCount, zGate, wVariable, wGate}
 use Rattle.steps.proofs.StepLaws.{gate-clauses}
 
 -- ---- literals
@@ -46,59 +47,51 @@ module _ (g : again.Gate) (m : Gate) (is : gateMeant g ≡ m) where
   op-is : m .op ≡ opOf (g .op)
   op-is = ap (λ (k : Gate). k .op) (sym is ∙ meant (g .op) (g .x) (g .y))
 
-  pub x-is : m .x ≡ g .x
+  x-is : m .x ≡ g .x
   x-is = ap (λ (k : Gate). k .x) (sym is)
 
-  pub y-is : m .y ≡ g .y
+  y-is : m .y ≡ g .y
   y-is = ap (λ (k : Gate). k .y) (sym is)
-
-  -- variable t as this gate, over literals of variables in use
-  pub gate-defines : (t x y : ℕ) (n : Literal) (f : ℕ → ℕ) → n .code ≡ positive t → t ≤ highestVariable → x ≡ f (g .x) → y ≡ f (g .y) → netOf x < t → netOf y < t
-      → Defines (record { op = g .op; n = n; x = record { code = x }; y = record { code = y } }) t (record { op = m .op; x = f (m .x); y = f (m .y) })
-  gate-defines t x y n f e low ex ey lx ly =
-      let s : gateClauses t (record { op = m .op; x = f (m .x); y = f (m .y) }) ≡ clausesOf (g .op) (positive t) (f (g .x)) (f (g .y)) =
-      rw (op-is, x-is, y-is) (gate-clauses (g .op) t (f (g .x)) (f (g .y))) in
-      record {
-        same = rw (e, ex, ey) (sym s);
-        low-n = omega arith;
-        low-x = omega arith;
-        low-y = omega arith;
-      }
 
   -- moved as a right gate's literals are
   pub moved : (x y : ℕ) (f : ℕ → ℕ) → x ≡ f (g .x) → y ≡ f (g .y)
       → gateMeant (record { op = g .op; x = x; y = y }) ≡ record { op = m .op; x = f (m .x); y = f (m .y) }
   moved x y f ex ey = meant (g .op) x y ∙ rw (op-is, x-is, y-is, ex, ey)
 
--- ---- z and w
+-- ---- definitions
 
-pub z-defines : (t x y : ℕ) (n : Literal) (i k : ℕ) (xs ys : List ℕ) (j : ℕ) → n .code ≡ positive t → t ≤ highestVariable → x ≡ getD xs j 0
-    → y ≡ shift i k (getD ys j 0) → netOf x < t → netOf y < t
-    → Defines (record { op = Xor; n = n; x = record { code = x }; y = record { code = y } }) t (zGate i k xs ys j)
-unfolding opClauses
-z-defines t x y n i k xs ys j e low ex ey lx ly =
-    record { same = rw (e, ex, ey); low-n = omega arith; low-x = omega arith; low-y = omega arith }
+-- variable t as a gate over variables below it
+pub gate-defines : (g : again.Gate) (t : ℕ) (n x y : Literal) → n .code ≡ positive t → x .code ≡ g .x → y .code ≡ g .y → t ≤ highestVariable
+    → readsBelow t (gateMeant g) ≡ true → Defines (record { op = g .op; n = n; x = x; y = y }) t (gateMeant g)
+gate-defines g t n x y en ex ey low r =
+    let b = literals-below t (gateMeant g) r in
+    record {
+      same = rw (en, ex, ey) (sym (ap (gateClauses t) (meant (g .op) (g .x) (g .y)) ∙ gate-clauses (g .op) t (g .x) (g .y)));
+      low-n = omega arith;
+      low-x = omega (arith, b .0);
+      low-y = omega (arith, b .1);
+    }
 
 neg-positive : (v : ℕ) → neg (positive v) ≡ negative v
 neg-positive v = omega arith
 
-pub w-behind : (first outputs k : ℕ) → (k ≡ 0 → ⊥) → first + outputs + (k - 1) ≡ wVariable first outputs k
-w-behind first outputs zero h = absurd (h refl)
-w-behind first outputs (suc k) h = omega arith
+pub w-behind : (z w k : ℕ) → (k ≡ 0 → ⊥) → w + (k - 1) ≡ wVariable z w k
+w-behind z w zero h = absurd (h refl)
+w-behind z w (suc k) h = omega arith
 
-pub w-low : (first outputs k : ℕ) → wVariable first outputs k ≤ first + outputs + k
-w-low first outputs zero = omega arith
-w-low first outputs (suc k) = omega arith
+pub w-low : (z w k : ℕ) → z ≤ w → wVariable z w k ≤ w + k
+w-low z w zero h = omega arith
+w-low z w (suc k) h = omega arith
 
-pub w-defines : (first outputs k : ℕ) (n x y : Literal) → first + outputs + k + 1 ≤ highestVariable → k < outputs → n .code ≡ negative (first + outputs + k)
-    → x .code ≡ negative (wVariable first outputs k) → y .code ≡ negative (first + 1 + k)
-    → Defines (record { op = And; n = n; x = x; y = y }) (first + outputs + k) (wGate first outputs k)
+pub w-defines : (z w k : ℕ) (n x y : Literal) → z ≤ w → w + k < highestVariable → n .code ≡ negative (w + k)
+    → x .code ≡ negative (wVariable z w k) → y .code ≡ negative (z + 1 + k)
+    → Defines (record { op = And; n = n; x = x; y = y }) (w + k) (wGate z w k)
 unfolding opClauses
-w-defines first outputs k n x y low h en ex ey =
+w-defines z w k n x y h low en ex ey =
     record {
-      same = rw (en, ex, ey, neg-positive (wVariable first outputs k), neg-positive (first + 1 + k));
+      same = rw (en, ex, ey, neg-positive (wVariable z w k), neg-positive (z + 1 + k));
       low-n = omega arith;
-      low-x = omega (arith, w-low first outputs k);
+      low-x = omega (arith, w-low z w k h);
       low-y = omega arith;
     }
 
@@ -116,28 +109,19 @@ zs-at i k (x ∷ xs) [] j d h g = absurd (omega arith)
 zs-at i k (x ∷ xs) (y ∷ ys) zero d h g = refl
 zs-at i k (x ∷ xs) (y ∷ ys) (suc j) d h g = zs-at i k xs ys j d (omega arith) (omega arith)
 
--- the w before the one at j: w, or the one of t + (j − 1)
-abbrev before : ℕ → ℕ → ℕ → ℕ
-before t w zero = w
-before t w (suc j) = t + j
-
 abbrev orOf : ℕ → ℕ → Gate
 orOf x y = record { op = nets.Op.or; x = positive x; y = positive y }
 
 or-gate : (x x′ y y′ : ℕ) → x ≡ x′ → y ≡ y′ → orOf x y ≡ orOf x′ y′
 or-gate x x′ y y′ e f = rw (e, f)
 
-ws-at : (n t w z j : ℕ) (d : Gate) → j < n → getD (ws n t w z) j d ≡ orOf (before t w j) (z + j)
+ws-at : (n t w z j : ℕ) (d : Gate) → j < n → getD (ws n t w z) j d ≡ orOf (wVariable w t j) (z + j)
 unfolding ws
 ws-at zero t w z j d h = absurd (omega arith)
 ws-at (suc n) t w z zero d h = or-gate w w z (z + 0) refl (omega arith)
 ws-at (suc n) t w z (suc zero) d h = ws-at n (suc t) t (suc z) zero d (omega arith) ∙ or-gate t (t + 0) (suc z + 0) (z + 1) (omega arith) (omega arith)
 ws-at (suc n) t w z (suc (suc j)) d h =
     ws-at n (suc t) t (suc z) (suc j) d (omega arith) ∙ or-gate (suc t + j) (t + suc j) (suc z + suc j) (z + suc (suc j)) (omega arith) (omega arith)
-
-before-is : (f n j : ℕ) → before (f + n) f j ≡ wVariable f n j
-before-is f n zero = refl
-before-is f n (suc j) = refl
 
 module _ (a b : Netlist) (ab : pairs.Pair a b) where
   pub left-of : (i : ℕ) (d : Gate) → i < length (a .gates) → getD (gatesOf a b) i d ≡ getD (a .gates) i d
@@ -147,68 +131,49 @@ module _ (a b : Netlist) (ab : pairs.Pair a b) where
       → getD (gatesOf a b) (length (a .gates) + j) d ≡ shiftGate (a .inputs) (length (a .gates)) (getD (b .gates) j d)
   right-of j d h = getD-append-add (a .gates) (rightGates a b) j d ∙ map-at (shiftGate (a .inputs) (length (a .gates))) (b .gates) j d d h
 
-  pub left-at : (i : ℕ) (d : Gate) → i < length (a .gates) → getD (miterGates a b) i d ≡ getD (a .gates) i d
-  unfolding miterGates
-  left-at i d h =
-      let n = length-append (a .gates) (rightGates a b) in
-      let m = length-append (gatesOf a b) (zGates a b) in
-      List·getD-append (gatesOf a b ++ zGates a b) (wGates a b) d i (omega arith)
-      ∙ List·getD-append (gatesOf a b) (zGates a b) d i (omega arith)
-      ∙ left-of i d h
-
-  pub right-at : (j : ℕ) (d : Gate) → j < length (b .gates)
-      → getD (miterGates a b) (length (a .gates) + j) d ≡ shiftGate (a .inputs) (length (a .gates)) (getD (b .gates) j d)
-  unfolding miterGates
-  right-at j d h =
-      let r = length-map (b .gates) (shiftGate (a .inputs) (length (a .gates))) in
-      let n = length-append (a .gates) (rightGates a b) in
-      let m = length-append (gatesOf a b) (zGates a b) in
-      List·getD-append (gatesOf a b ++ zGates a b) (wGates a b) d (length (a .gates) + j) (omega arith)
-      ∙ List·getD-append (gatesOf a b) (zGates a b) d (length (a .gates) + j) (omega arith)
-      ∙ right-of j d h
-
   -- the XOR of two outputs
   pub z-of : (j : ℕ) (d : Gate) → j < length (a .outs) → getD (zGates a b) j d ≡ zGate (a .inputs) (length (a .gates)) (a .outs) (b .outs) j
   z-of j d h = zs-at (a .inputs) (length (a .gates)) (a .outs) (b .outs) j d h (omega (arith, ab .outs))
 
-  pub z-at : (j : ℕ) (d : Gate) → j < length (a .outs)
-      → getD (miterGates a b) (length (a .gates) + length (b .gates) + j) d ≡ zGate (a .inputs) (length (a .gates)) (a .outs) (b .outs) j
+  -- the miter's gates, part by part
+  pub gates-at : (i : ℕ) (d : Gate) → i < length (gatesOf a b) → getD (miterGates a b) i d ≡ getD (gatesOf a b) i d
+  unfolding miterGates
+  gates-at i d h =
+      List·getD-append (gatesOf a b ++ zGates a b) (wGates a b) d i (omega (arith, length-append (gatesOf a b) (zGates a b)))
+      ∙ List·getD-append (gatesOf a b) (zGates a b) d i h
+
+  pub z-at : (j : ℕ) (d : Gate) → j < length (zGates a b) → getD (miterGates a b) (length (gatesOf a b) + j) d ≡ getD (zGates a b) j d
   unfolding miterGates
   z-at j d h =
-      let r = length-map (b .gates) (shiftGate (a .inputs) (length (a .gates))) in
-      let n = length-append (a .gates) (rightGates a b) in
-      let m = length-append (gatesOf a b) (zGates a b) in
-      let z = length-z a b ab in
-      let e : length (a .gates) + length (b .gates) + j ≡ length (gatesOf a b) + j = omega arith in
-      rw e
-      (List·getD-append (gatesOf a b ++ zGates a b) (wGates a b) d (length (gatesOf a b) + j) (omega arith)
+      List·getD-append (gatesOf a b ++ zGates a b) (wGates a b) d (length (gatesOf a b) + j) (omega (arith, length-append (gatesOf a b) (zGates a b)))
       ∙ getD-append-add (gatesOf a b) (zGates a b) j d
-      ∙ z-of j d h)
 
   pub w-at : (j : ℕ) (d : Gate) → j + 1 < length (a .outs)
-      → getD (miterGates a b) (length (a .gates) + length (b .gates) + length (a .outs) + j) d
-      ≡ wGate (1 + a .inputs + length (a .gates) + length (b .gates)) (length (a .outs)) j
-  unfolding miterGates firstZ
+      → getD (miterGates a b) (length (gatesOf a b ++ zGates a b) + j) d ≡ wGate (firstZ a b) (firstW a b) j
+  unfolding miterGates
   w-at j d h =
-      let r = length-map (b .gates) (shiftGate (a .inputs) (length (a .gates))) in
-      let n = length-append (a .gates) (rightGates a b) in
-      let m = length-append (gatesOf a b) (zGates a b) in
-      let z = length-z a b ab in
-      let f : ℕ = 1 + a .inputs + length (a .gates) + length (b .gates) in
-      let e : length (a .gates) + length (b .gates) + length (a .outs) + j ≡ length (gatesOf a b ++ zGates a b) + j = omega arith in
-      rw e
-      (getD-append-add (gatesOf a b ++ zGates a b) (wGates a b) j d
-      ∙ ws-at (length (a .outs) - 1) (f + length (a .outs)) f (suc f) j d (omega arith)
-      ∙ or-gate (before (f + length (a .outs)) f j) (wVariable f (length (a .outs)) j) (suc f + j) (f + 1 + j) (before-is f (length (a .outs)) j) (omega arith))
+      getD-append-add (gatesOf a b ++ zGates a b) (wGates a b) j d
+      ∙ ws-at (length (a .outs) - 1) (firstW a b) (firstZ a b) (suc (firstZ a b)) j d (omega arith)
+      ∙ or-gate _ (wVariable (firstZ a b) (firstW a b) j) (suc (firstZ a b) + j) (firstZ a b + 1 + j) refl (omega arith)
 
--- ---- a right gate's literals, for `shift`
+-- ---- two lists that were read
 
 module _ {text : List ℕ} {p : Pair} (w : Lists text p) where
+  pub within : Within p
+  within =
+      record {
+        inputs = omega (arith, w .alike .left .inputs, w .inputs);
+        left = omega (arith, w .alike .left .gates, w .left-gates);
+        right = omega (arith, w .alike .right .gates, w .right-gates);
+        some = omega (arith, w .alike .left .some, w .outputs);
+        outputs = omega (arith, w .alike .left .outs, w .outputs);
+      }
+
   pub few-left : p .left ≤ mostGates
-  few-left = omega (arith, w .alike .left .gates, w .left-gates)
+  few-left = within .left
 
   pub few-right : p .right ≤ mostGates
-  few-right = omega (arith, w .alike .right .gates, w .right-gates)
+  few-right = within .right
 
   pub right-literals : (k : ℕ) → k < p .right → (g : again.Gate) → gateMeant g ≡ getD (w .right .gates) k noGate → (g .x < 4096) × (g .y < 4096)
   right-literals k h g is =
@@ -235,40 +200,46 @@ module _ {text : List ℕ} {p : Pair} (w : Lists text p) where
       ap₂ (λ (i n : ℕ). zGate i n (w .left .outs) (w .right .outs) k) (sym (w .inputs)) (sym (w .left-gates))
       ∙ sym (z-of (w .left) (w .right) (w .alike) k noGate (omega (arith, w .outputs)))
 
-same-definition : {r : Definition} {t t′ : ℕ} {g g′ : Gate} → t ≡ t′ → g ≡ g′ → Defines r t g → Defines r t′ g′
-same-definition {r} {t} {t′} {g} {g′} e f d = rw (sym e, sym f) d
+-- ---- the miter's variables
 
-module _ {text : List ℕ} {p : Pair} (w : Lists text p) (i : ℕ) (r : Definition) where
-  pub left-variable : i < p .left → Defines r (1 + p .inputs + i) (getD (w .left .gates) i noGate)
-      → Defines r (1 + p .inputs + i) (getD (miterGates (w .left) (w .right)) i noGate)
-  left-variable h d = rw (left-at (w .left) (w .right) (w .alike) i noGate (omega (arith, w .left-gates))) d
+module _ {text : List ℕ} {p : Pair} (w : Lists text p) where
+  abbrev a : Netlist
+  a = w .left
 
-  -- one of the right list, of the z, of the w, by its number j among them
-  pub right-variable : (j : ℕ) → i ≡ p .left + j → j < p .right
-      → Defines r (1 + p .inputs + p .left + j) (shiftGate (p .inputs) (p .left) (getD (w .right .gates) j noGate))
-      → Defines r (1 + p .inputs + i) (getD (miterGates (w .left) (w .right)) i noGate)
-  right-variable j is h d =
-      let e : length (w .left .gates) + j ≡ i = omega (arith, w .left-gates) in
-      same-definition (omega arith)
-      (rw (sym (w .inputs), sym (w .left-gates)) (sym (right-at (w .left) (w .right) (w .alike) j noGate (omega (arith, w .right-gates))))
-      ∙ ap (λ (k : ℕ). getD (miterGates (w .left) (w .right)) k noGate) e) d
+  abbrev b : Netlist
+  b = w .right
 
-  pub z-variable : (j : ℕ) → i ≡ p .left + p .right + j → j < p .outputs
-      → Defines r (1 + p .inputs + p .left + p .right + j) (zGate (p .inputs) (p .left) (w .left .outs) (w .right .outs) j)
-      → Defines r (1 + p .inputs + i) (getD (miterGates (w .left) (w .right)) i noGate)
-  z-variable j is h d =
-      let e : length (w .left .gates) + length (w .right .gates) + j ≡ i = omega (arith, w .left-gates, w .right-gates) in
-      same-definition (omega arith)
-      (rw (sym (w .inputs), sym (w .left-gates)) (sym (z-at (w .left) (w .right) (w .alike) j noGate (omega (arith, w .outputs))))
-      ∙ ap (λ (k : ℕ). getD (miterGates (w .left) (w .right)) k noGate) e) d
+  -- how many there are
+  pub gate-total : length (miterGates a b) ≡ gateCount p
+  gate-total = length-miter a b (w .alike) ∙ rw (w .left-gates, w .right-gates, w .outputs)
 
-  pub w-variable : (j : ℕ) → i ≡ p .left + p .right + p .outputs + j → j + 1 < p .outputs
-      → Defines r (1 + p .inputs + (p .left + p .right) + p .outputs + j) (wGate (1 + p .inputs + (p .left + p .right)) (p .outputs) j)
-      → Defines r (1 + p .inputs + i) (getD (miterGates (w .left) (w .right)) i noGate)
-  w-variable j is h d =
-      let e : length (w .left .gates) + length (w .right .gates) + length (w .left .outs) + j ≡ i = omega (arith, w .left-gates, w .right-gates, w .outputs) in
-      let f : 1 + p .inputs + (p .left + p .right) ≡ 1 + w .left .inputs + length (w .left .gates) + length (w .right .gates) =
-      omega (arith, w .inputs, w .left-gates, w .right-gates) in
-      same-definition (omega arith)
-      (rw (f, sym (w .outputs)) (sym (w-at (w .left) (w .right) (w .alike) j noGate (omega (arith, w .outputs))))
-      ∙ ap (λ (k : ℕ). getD (miterGates (w .left) (w .right)) k noGate) e) d
+  -- variable i of them is a gate of both lists, or a z
+  pub gate-variable : (i j : ℕ) → i ≡ j → j < p .left + p .right → getD (gatesOf a b) j noGate ≡ getD (miterGates a b) i noGate
+  gate-variable i j e h =
+      rw e (sym (gates-at a b (w .alike) j noGate (omega (arith, length-gates a b (w .alike), w .left-gates, w .right-gates))))
+
+  pub z-variable : (i j : ℕ) → i ≡ p .left + p .right + j → j < p .outputs → getD (zGates a b) j noGate ≡ getD (miterGates a b) i noGate
+  z-variable i j e h =
+      let n : length (gatesOf a b) + j ≡ i = omega (arith, length-gates a b (w .alike), w .left-gates, w .right-gates) in
+      rw (← n) (sym (z-at a b (w .alike) j noGate (omega (arith, length-z a b (w .alike), w .outputs))))
+
+  -- it reads variables below its own; so its definition is that of the gate that was read for it
+  pub read-variable : (v i : ℕ) (d : Definition) (g : again.Gate) → v ≡ 1 + p .inputs + i → i < gateCount p → gateMeant g ≡ getD (miterGates a b) i noGate
+      → (readsBelow v (gateMeant g) ≡ true → Defines d v (gateMeant g)) → Defines d v (getD (miterGates a b) i noGate)
+  read-variable v i d g e h is def =
+      let at : firstGate a + i ≡ v = omega (arith, w .inputs) in
+      let low : readsBelow v (getD (miterGates a b) i noGate) ≡ true =
+      rw (← at) (ordered-at (firstGate a) (miterGates a b) i noGate (ordered-miter a b (w .alike)) (omega (arith, gate-total))) in
+      subst (Defines d v) is (def (ap (readsBelow v) is ∙ low))
+
+  -- behind those it is a w
+  pub w-variable : (v i j z first : ℕ) (d : Definition) → v ≡ 1 + p .inputs + i → v ≡ first + j → i < gateCount p
+      → z ≡ 1 + p .inputs + p .left + p .right → first ≡ z + p .outputs
+      → Defines d (first + j) (wGate z first j) → Defines d v (getD (miterGates a b) i noGate)
+  unfolding firstZ
+  w-variable v i j z first d e is h ez ew def =
+      let n : length (gatesOf a b ++ zGates a b) + j ≡ i =
+      omega (arith, length-append (gatesOf a b) (zGates a b), length-gates a b (w .alike), length-z a b (w .alike), w .left-gates, w .right-gates, w .outputs) in
+      let fz : z ≡ firstZ a b = omega (arith, w .inputs, w .left-gates, w .right-gates) in
+      let fw : first ≡ firstW a b = omega (arith, w .inputs, w .left-gates, w .right-gates, w .outputs) in
+      rw (is, ← n, w-at a b (w .alike) j noGate (omega (arith, w .outputs)), ← fw, ← fz) def

@@ -42,14 +42,14 @@ gateCount p = p .left + p .right + p .outputs + (p .outputs - 1)
 abbrev pub zGate : ℕ → ℕ → List ℕ → List ℕ → ℕ → Gate
 zGate i left xs ys k = record { op = xor; x = getD xs k 0; y = shift i left (getD ys k 0) }
 
--- the variable of w of output k, from 0, where this is the first z of so many
+-- the variable of w of output k, from 0, where z is the first z and w the first w
 abbrev pub wVariable : ℕ → ℕ → ℕ → ℕ
-wVariable first outputs zero = first
-wVariable first outputs (suc k) = first + outputs + k
+wVariable z w zero = z
+wVariable z w (suc k) = w + k
 
 -- w of output k + 1
 abbrev pub wGate : ℕ → ℕ → ℕ → Gate
-wGate first outputs k = record { op = or; x = positive (wVariable first outputs k); y = positive (first + 1 + k) }
+wGate z w k = record { op = or; x = positive (wVariable z w k); y = positive (z + 1 + k) }
 
 -- the clauses of the definition are those of variable t as this gate, and the store can hold its literals
 pub record Defines (d : Definition) (t : ℕ) (g : Gate) : Type 0 where

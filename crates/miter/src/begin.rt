@@ -53,20 +53,21 @@ fn close(store: &mut [u16], room: usize, count: usize, last: usize) -> Stepped
 }
 
 // The variables in order, each with its clauses, behind the first clause.
-fn write_variables(text: &[u8], pair: Pair, total: usize, store: &mut [u16], room: usize) -> Filled
-    requires { ⌜ Lists (now text) pair × (total ≡ gateCount pair) × Space (length (now store)) room × Held (now store) (firstClause ∷ []) ⌝ }
-    ensures { λ r. ⌜ ((w : Lists (now (text .entry)) pair) → FilledSays room (gatesUpTo (w .left) (w .right) total) (now (store .exit)) r) ⌝ }
+fn write_variables(text: &[u8], pair: Pair, store: &mut [u16], room: usize) -> Filled
+    requires { ⌜ Lists (now text) pair × Space (length (now store)) room × Held (now store) (firstClause ∷ []) ⌝ }
+    ensures { λ r. ⌜ ((w : Lists (now (text .entry)) pair) → FilledSays room (gatesUpTo (w .left) (w .right) (gateCount pair)) (now (store .exit)) r) ⌝ }
 {
+    let end = pair.variables();
     let mut count: usize = 1;
-    let mut i: usize = 0;
-    while i < total {
-        let d = variable(text, pair, i);
+    let mut v = pair.first_gate();
+    while v < end {
+        let d = variable(text, pair, v);
         let op = d.op;
         if room < count + clause_count(op) {
             return Filled::Short;
         }
         count = push_gate(store, count, op, d.n, d.x, d.y);
-        i += 1;
+        v += 1;
     }
     Filled::UpTo(count)
 }
@@ -79,11 +80,10 @@ pub fn begin(text: &[u8], pair: Pair, store: &mut [u16], room: usize) -> Stepped
     if room == 0 {
         return Stepped::Refused(Refusal { number: 8, line: 0 });
     }
-    let total = pair.left + pair.right + pair.outputs + (pair.outputs - 1);
     put_unit(store, 0, Literal::negative(0));
-    let filled = write_variables(text, pair, total, store, room);
+    let filled = write_variables(text, pair, store, room);
     let Filled::UpTo(count) = filled else {
         return Stepped::Refused(Refusal { number: 8, line: 0 });
     };
-    close(store, room, count, pair.inputs + total)
+    close(store, room, count, pair.variables() - 1)
 }

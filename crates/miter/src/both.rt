@@ -1,17 +1,30 @@
 // The gates and outputs of both lists in the miter's numbering: the right list's gates lie behind the left list's.
-use crate::variables::shift;
 use frame::Op;
+use literal::Literal;
 use netlist::Pair;
 use netlist::again::Gate;
 use netlist::again::gate_at;
 use netlist::again::op_at;
 use netlist::again::output_at;
 ghost use mathlib.Core.Path.{_≡_};
-ghost use Prim.Native.Nat.{_+_, _<_};
+ghost use Prim.Native.Nat.{_+_, _≤_, _<_};
 ghost use lib.ListN.{getD};
+ghost use Rattle.model.specs.Limits.{mostGates};
+ghost use Rattle.model.specs.Miter as model;
 ghost use Rattle.model.specs.Miter.{gatesOf, zGates};
 ghost use Rattle.netlist.specs.Again.{opOf, gateMeant, noGate};
 ghost use Rattle.miter.specs.Miters.{Lists};
+
+// A right list's literal as the miter's: its gates lie behind the left list's.
+fn shift(inputs: usize, left: usize, l: u16) -> u16
+    requires { ⌜ (l < 4096) × (left ≤ mostGates) ⌝ }
+    ensures { λ r. ⌜ r ≡ model.shift inputs left l ⌝ }
+{
+    if Literal::of(l).variable() as usize <= inputs {
+        return l;
+    }
+    l + 2 * (left as u16)
+}
 
 // Gate k of both lists, from 0.
 pub fn gate_of(text: &[u8], pair: Pair, k: usize) -> Gate

@@ -1,3 +1,4 @@
 pub mod Says
 pub mod Replies
 pub mod Again
+pub mod Within

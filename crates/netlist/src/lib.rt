@@ -11,10 +11,11 @@ use lines::read_body;
 use lines::read_end;
 use lines::read_header;
 ghost use mathlib.Core.Path.{_≡_};
-ghost use Prim.Native.Nat.{_≤_};
+ghost use Prim.Native.Nat.{_+_, _-_, _≤_};
 ghost use Rattle.frame.specs.Frames.{Inside};
 ghost use Rattle.model.specs.Limits.{mostGates, mostOutputs};
 ghost use Rattle.model.specs.Lists.{readOne, readBoth, readLists};
+ghost use Rattle.netlist.specs.Within.{Within};
 ghost use Rattle.netlist.specs.Says.{PartSays, RightSays, partRefusal, behindRefusal};
 ghost use Rattle.netlist.specs.Replies.{oneRefusal, bothRefusal, countsReply, pairReply, countsOf, bytesOf, pairBy, pairOf, bothOf};
 
@@ -108,6 +109,57 @@ impl Both {
             Both::Paired(_) => Refusal { number: 0, line: 0 },
             Both::Refused(r) => r,
         }
+    }
+}
+
+// The variables of the two lists' miter (document 01, 'The miter's clauses'): 0 and the inputs, then part by part.
+impl Pair {
+    // The first left gate's variable.
+    pub fn first_gate(self) -> usize
+        requires { ⌜ Within self ⌝ }
+        ensures { λ r. ⌜ r ≡ 1 + self .inputs ⌝ }
+    {
+        1 + self.inputs
+    }
+
+    // The first right gate's.
+    pub fn first_right(self) -> usize
+        requires { ⌜ Within self ⌝ }
+        ensures { λ r. ⌜ r ≡ 1 + self .inputs + self .left ⌝ }
+    {
+        self.first_gate() + self.left
+    }
+
+    // The first z's.
+    pub fn first_z(self) -> usize
+        requires { ⌜ Within self ⌝ }
+        ensures { λ r. ⌜ r ≡ 1 + self .inputs + self .left + self .right ⌝ }
+    {
+        self.first_right() + self.right
+    }
+
+    // The first w's.
+    pub fn first_w(self) -> usize
+        requires { ⌜ Within self ⌝ }
+        ensures { λ r. ⌜ r ≡ 1 + self .inputs + self .left + self .right + self .outputs ⌝ }
+    {
+        self.first_z() + self.outputs
+    }
+
+    // How many variables there are, 0 counted: the first that is not in use.
+    pub fn variables(self) -> usize
+        requires { ⌜ Within self ⌝ }
+        ensures { λ r. ⌜ r ≡ 1 + self .inputs + self .left + self .right + self .outputs + (self .outputs - 1) ⌝ }
+    {
+        self.first_w() + (self.outputs - 1)
+    }
+
+    // How many nets both lists have, net 0 and the inputs counted once: as many variables lie before the first z.
+    pub fn nets(self) -> usize
+        requires { ⌜ Within self ⌝ }
+        ensures { λ r. ⌜ r ≡ 1 + self .inputs + self .left + self .right ⌝ }
+    {
+        self.first_z()
     }
 }
 

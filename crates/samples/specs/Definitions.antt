@@ -11,7 +11,7 @@ use Rattle.model.specs.Nets.{literal, gate, grow, bits, word, nets, eval}
 use Rattle.model.specs.Lists.{headerAt, gateAt, outputAt, readOutputs, readGates, readList, readBoth, readLists, readOne}
 use Rattle.model.specs.Evaluator.{evaluate}
 use Rattle.model.specs.Clauses.{insert, join, without, holds, resolvent, andClauses, xorClauses, opClauses, allClauses}
-use Rattle.model.specs.Miter.{shift, zs, ws, firstZ, miterGates, miterVars, miter}
+use Rattle.model.specs.Miter.{shift, zs, ws, firstZ, miterGates, miterVars, miter, firstZClause}
 use Rattle.model.specs.Steps.{added, resolved, step, stepAt, replay}
 use Rattle.model.specs.Checker.{begin, verdictOn, check, storedAll, judge, program}
 use Rattle.model.specs.Forms.{same, sameForm, foldAnd, xorCores, foldXor, foldOp, literalForm, gateForm, leaves, netForms, firstApart, differing}
@@ -19,7 +19,7 @@ use Rattle.model.specs.Engine.{provable}
 
 -- `unfolding definitions` opens them all
 unfoldable pub definitions : Unit {0}
-unfolding guard lines widths number total split decodeAs decode frameAt dueAt endAt loneOf loneLine hex hexFields lineOf statedLine writeFrame literal gate grow bits word nets eval headerAt gateAt outputAt readOutputs readGates readList readBoth readLists readOne evaluate insert join without holds resolvent andClauses xorClauses opClauses allClauses shift zs ws firstZ miterGates miterVars miter added resolved step stepAt replay begin verdictOn check storedAll judge program same sameForm foldAnd xorCores foldXor foldOp literalForm gateForm leaves netForms firstApart differing provable
+unfolding guard lines widths number total split decodeAs decode frameAt dueAt endAt loneOf loneLine hex hexFields lineOf statedLine writeFrame literal gate grow bits word nets eval headerAt gateAt outputAt readOutputs readGates readList readBoth readLists readOne evaluate insert join without holds resolvent andClauses xorClauses opClauses allClauses shift zs ws firstZ miterGates miterVars miter firstZClause added resolved step stepAt replay begin verdictOn check storedAll judge program same sameForm foldAnd xorCores foldXor foldOp literalForm gateForm leaves netForms firstApart differing provable
 definitions = tt
 
 -- a text's bytes

@@ -9,7 +9,7 @@ use Rattle.model.specs.Answers.{Answer, bind}
 use Rattle.model.specs.Answers.Answer.{ok}
 use Rattle.model.specs.Nets.{Netlist}
 use Rattle.model.specs.Lists.{readLists}
-use Rattle.model.specs.Miter.{miter, miterVars}
+use Rattle.model.specs.Miter.{firstGate, firstRight, firstZ, firstW, miterVars, miter, firstGateClause, firstRightClause, firstZClause, firstWClause, lastNumber, firstBehind}
 use Rattle.model.specs.Checker.{capacity, check}
 use Rattle.samples.specs.Definitions.{definitions, bytes}
 
@@ -88,6 +88,31 @@ record Miters : Type 0 where
 miter-samples : Miters
 unfolding definitions
 miter-samples = record { clauses = refl; variables = refl; right-gates = refl; ws = refl }
+
+-- ---- its numbers
+
+-- the variables of the first left gate, right gate, z and w, and the first not in use
+abbrev variablesOf : Netlist → Netlist → List ℕ
+variablesOf a b = firstGate a ∷ firstRight a ∷ firstZ a b ∷ firstW a b ∷ miterVars a b ∷ []
+
+-- the numbers of the first clause of each, of the last clause, and the first behind
+abbrev numbersOf : Netlist → Netlist → List ℕ
+numbersOf a b = firstGateClause ∷ firstRightClause a ∷ firstZClause a b ∷ firstWClause a b ∷ lastNumber a b ∷ firstBehind a b ∷ []
+
+-- the lists of 'Bench samples': a AND a, and a. No right gate, and no w
+abbrev paper : String
+paper = "0101000101\n0200020002\n040004\n0101000001\n040002\n"
+
+record Numbers : Type 0 where
+  paper-variables : of variablesOf paper ≡ ok (2 ∷ 3 ∷ 3 ∷ 4 ∷ 4 ∷ [])
+  -- P4: 'clause 9 exists', 10 does not
+  paper-clauses : of numbersOf paper ≡ ok (2 ∷ 5 ∷ 5 ∷ 9 ∷ 9 ∷ 10 ∷ [])
+  larger-variables : of variablesOf larger ≡ ok (2 ∷ 3 ∷ 5 ∷ 8 ∷ 10 ∷ [])
+  larger-clauses : of numbersOf larger ≡ ok (2 ∷ 5 ∷ 12 ∷ 24 ∷ 30 ∷ 31 ∷ [])
+
+numbers : Numbers
+unfolding definitions
+numbers = record { paper-variables = refl; paper-clauses = refl; larger-variables = refl; larger-clauses = refl }
 
 -- ---- 'It holds as many clauses as there are whole eights, at most 65,535.'
 

@@ -7,7 +7,7 @@ use Rattle.derive.proofs.lines.resolve_on.Tie as tie
 use Rattle.derive.proofs.lines.resolve_on.Reads as reads
 use Rattle.derive.proofs.lines.resolve_on.Lts as lts
 use Rattle.derive.proofs.lines.resolution.Reads as resolution-reads
-use Rattle.words.proofs.write.write_resolve.Reads as write-resolve-reads
+use Rattle.frame.proofs.resolves.write_resolve.Reads as write-resolve-reads
 
 resolution-requires : tie.Need-resolution-requires
 resolution-requires c κs = search needs

@@ -20,6 +20,7 @@ use Rattle.emit.proofs.pass.gates.Reads as reads
 use Rattle.emit.proofs.pass.gates.Lts as lts
 use Rattle.miter.proofs.both.gate_of.Reads as gate-of-reads
 use Rattle.emit.proofs.pass.one_gate.Reads as one-gate-reads
+use Rattle.netlist.proofs.Pair.first_gate.Reads as first-gate-reads
 
 abbrev Inv-loop : tie.InvT-loop
 Inv-loop text pair work₀ start proof₀ first total done₀ i₀ work proof done i =
@@ -35,8 +36,8 @@ Inv-loop text pair work₀ start proof₀ first total done₀ i₀ work proof do
 abbrev μ-loop : tie.MeasureT-loop
 μ-loop text pair work₀ start proof₀ first total done₀ i₀ work proof done i = total - i
 
-add-first : tie.Need-add-first Inv-loop μ-loop
-add-first c = search needs
+first-gate-requires : tie.Need-first-gate-requires Inv-loop μ-loop
+first-gate-requires c κs = search needs
 
 add-total : tie.Need-add-total Inv-loop μ-loop
 add-total c = search needs
@@ -74,6 +75,7 @@ loop-again c =
     let l = c .before .before .before .before .before .before .before .before .before .loop in
     let g = c .before .before .before .before .before .before .before .gate-of in
     let o = c .before .before .before .before .one-gate in
+    let first = c .before .before .before .before .before .before .before .before .before .before .before .first-gate in
     let v = l .inv in (
       omega arith,
       (let s : length (o .last .0) ≡ length (l .work) = search needs in s) ∙ v .1,
@@ -84,10 +86,10 @@ loop-again c =
       λ w t k n.
           let u = v .6 w t k n in
           let h : l .i < length (gatesOf (w .left) (w .right)) = omega (arith, length-gates (w .left) (w .right) (w .alike), w .left-gates, w .right-gates) in
-          let e : 1 + a .pair .inputs + l .i ≡ firstGate (w .left) + l .i = omega (arith, w .inputs) in
+          let e : first .result + l .i ≡ firstGate (w .left) + l .i = omega (arith, first .ensures, w .inputs) in
           let low = reads-done (now (a .proof)) (a .at) (a .start) t (w .left) (w .right) (w .alike) (l .i) _ _ h (g .ensures w) e in
           up-to-next (now (a .proof)) (a .at) (a .start) t (w .left) (w .right) (l .proof) _ (l .work) (o .last .0) (l .done) (o .result) (l .i) _ _ h (g .ensures w) e u
-          (o .ensures .1 t (u .links) (u .known) (omega (arith, u .long)) (omega arith) low),
+          (o .ensures .1 t (u .links) (u .known) (omega (arith, u .long, first .ensures)) (omega (arith, first .ensures)) low),
     )
 
 same-length : tie.Need-same-length Inv-loop μ-loop
@@ -113,7 +115,7 @@ gates-spec =
     (tie.spec
     Inv-loop
     μ-loop
-    add-first
+    first-gate-requires
     add-total
     loop-holds
     gate-of-requires

@@ -6,15 +6,15 @@ use Rattle.model.specs.Nets.{Gate}
 use Rattle.laws.specs.Literals.{literals-below}
 use Rattle.netlist.specs.Again.{opOf, gateMeant}
 use Rattle.miter.proofs.MiterLaws.{meant}
+use Rattle.miter.proofs.ClauseLaws.{few-each}
 use Rattle.emit.specs.Pass.{GateDone}
-use Rattle.emit.proofs.BeginLaws.{few-each}
 use Rattle.emit.proofs.PassLaws.{first-next, gate-done}
 use borrow.Author.Needs.{needs}
 use Rattle.emit.proofs.pass.one_gate.Statement.{statement}
 use Rattle.emit.proofs.pass.one_gate.Tie as tie
 use Rattle.emit.proofs.pass.one_gate.Reads as reads
 use Rattle.emit.proofs.pass.one_gate.Lts as lts
-use Rattle.emit.proofs.begin.behind.Reads as behind-reads
+use Rattle.miter.proofs.clauses.behind.Reads as behind-reads
 use Rattle.emit.proofs.pass.gate_lines.Reads as gate-lines-reads
 use Rattle.literal.proofs.Literal.of.Reads as of-reads
 use Rattle.literal.proofs.Literal.positive.Reads as positive-reads

@@ -5,31 +5,21 @@ use mathlib.Core.List.{[]}
 use native.Mathlib.Omega.{arith}
 use denote.Ref.{now}
 use lib.ListN.{length}
-use Rattle.miter.proofs.BeginLaws.{gate-total, none-held, first-held, few-variables, variables-are, all-short, no-space}
+use Rattle.miter.proofs.MiterLaws.{within, gate-total}
+use Rattle.miter.proofs.BeginLaws.{none-held, first-held, variables-are, all-short, no-space}
 use borrow.Author.Needs.{needs}
 use Rattle.miter.proofs.begin.begin.Statement.{statement}
 use Rattle.miter.proofs.begin.begin.Tie as tie
 use Rattle.miter.proofs.begin.begin.Reads as reads
 use Rattle.miter.proofs.begin.begin.Lts as lts
+use Rattle.literal.proofs.Literal.negative.Reads as negative-reads
 use Rattle.miter.proofs.begin.close.Reads as close-reads
 use Rattle.miter.proofs.begin.put_unit.Reads as put-unit-reads
 use Rattle.miter.proofs.begin.write_variables.Reads as write-variables-reads
-use Rattle.literal.proofs.Literal.negative.Reads as negative-reads
+use Rattle.netlist.proofs.Pair.variables.Reads as variables-reads
 
 returns : tie.Need-returns
 returns c w = no-space w (c .before .before .before .args .room) (omega arith)
-
-add-total : tie.Need-add-total
-add-total c = search needs
-
-add-total-2 : tie.Need-add-total-2
-add-total-2 c = search needs
-
-sub-total : tie.Need-sub-total
-sub-total c = search needs
-
-add-total-3 : tie.Need-add-total-3
-add-total-3 c = search needs
 
 negative-requires : tie.Need-negative-requires
 negative-requires c κs = search needs
@@ -39,14 +29,12 @@ put-unit-requires c κs = search needs
 
 write-variables-requires : tie.Need-write-variables-requires
 write-variables-requires c κs =
-    let a = c .before .before .before .before .before .before .before .before .before .before .before .before .args in
-    let r = c .before .before .before .before .before .before .before .before .before .before .before .before .pre in
-    let u = c .before .before .before .put-unit in
-    let l : length (u .last .0) ≡ length (now (a .store)) = search needs in (
-      r .0,
-      refl,
-      record { numbers-for-all = omega (arith, l, r .1); most = r .2; some = omega arith },
-      first-held (u .last .0) _ (c .before .before .before .before .negative .ensures) (u .ensures [] (none-held (now (a .store))) refl),
+    let start = c .before .before .before .before .before .before .before .before .before in
+    let unit = c .before .before .before .put-unit in
+    let long : length (unit .last .0) ≡ length (now (start .args .store)) = search needs in (
+      start .pre .0,
+      record { numbers-for-all = omega (arith, long, start .pre .1); most = start .pre .2; some = omega arith },
+      first-held (unit .last .0) _ (c .before .before .before .before .negative .ensures) (unit .ensures [] (none-held (now (start .args .store))) refl),
     )
 
 enum-known-filled : tie.Need-enum-known-filled
@@ -59,38 +47,37 @@ same-length : tie.Need-same-length
 same-length c = search needs
 
 returns-2 : tie.Need-returns-2
-returns-2 c w = all-short w (c .before .before .before .before .before .before .before .before .before .before .before .before .before .before .before .before .before .args .room) (rw (c .enum-told .given .1) at (c .before .before .before .before .write-variables .ensures w))
+returns-2 c w =
+    all-short w (c .before .before .before .before .before .before .before .before .before .before .before .before .before .before .args .room) (rw (c .enum-told .given .1) at (c .before .before .before .before .write-variables .ensures w))
 
-add-close : tie.Need-add-close
-add-close c = omega (arith, few-variables (c .before .before .before .before .before .before .before .before .before .before .before .before .before .before .before .before .before .before .before .before .pre .0))
+variables-requires : tie.Need-variables-requires
+variables-requires c κs = search needs
+
+sub-close : tie.Need-sub-close
+sub-close c = search needs
 
 close-requires : tie.Need-close-requires
 close-requires c κs =
-    let a = c .before .before .before .before .before .before .before .before .before .before .before .before .before .before .before .before .before .before .before .before .args in
-    let r = c .before .before .before .before .before .before .before .before .before .before .before .before .before .before .before .before .before .before .before .before .pre in
-    let v = c .before .before .before .before .before .before .before .write-variables in
-    let l : length (v .last .1 .1 .1 .0) ≡ length (now (a .store)) = search needs in
-    let h = rw (c .before .before .before .filled .given .1) at (v .ensures (r .0)) in
-    (record { numbers-for-all = omega (arith, l, r .1); most = r .2; some = omega arith }, h .2, few-variables (r .0))
+    let start = c .before .before .before .before .before .before .before .before .before .before .before .before .before .before .before .before .before in
+    let written = c .before .before .before .before .before .before .before .write-variables in
+    let long : length (written .last .1 .1 .0) ≡ length (now (start .args .store)) = search needs in
+    let filled = rw (c .before .before .before .filled .given .1) at (written .ensures (start .pre .0)) in
+    (record { numbers-for-all = omega (arith, long, start .pre .1); most = start .pre .2; some = omega arith }, filled .2, omega (arith, within (start .pre .0)))
 
 same-length-2 : tie.Need-same-length-2
 same-length-2 c = search needs
 
 returns-3 : tie.Need-returns-3
 returns-3 c w =
-    let v = c .before .before .before .before .before .before .before .before .before .before .write-variables in
-    let h = rw (sym (gate-total w)) at (rw (c .before .before .before .before .before .before .filled .given .1) at (v .ensures w)) in
-    c .before .before .close .ensures (w .left) (w .right) (h .0) (h .1) (variables-are w)
+    let written = c .before .before .before .before .before .before .before .before .before .before .write-variables in
+    let filled = rw (sym (gate-total w)) at (rw (c .before .before .before .before .before .before .filled .given .1) at (written .ensures w)) in
+    c .before .before .close .ensures (w .left) (w .right) (filled .0) (filled .1) (variables-are w _ (c .before .before .before .variables .ensures))
 
 pub begin-spec : {M : Type 1} → statement M
 begin-spec =
     tie.close
     (tie.spec
     returns
-    add-total
-    add-total-2
-    sub-total
-    add-total-3
     negative-requires
     put-unit-requires
     write-variables-requires
@@ -98,7 +85,8 @@ begin-spec =
     enum-told
     same-length
     returns-2
-    add-close
+    variables-requires
+    sub-close
     close-requires
     same-length-2
     returns-3)

@@ -11,7 +11,7 @@ use Rattle.miter.proofs.both.gate_of.Statement.{statement}
 use Rattle.miter.proofs.both.gate_of.Tie as tie
 use Rattle.miter.proofs.both.gate_of.Reads as reads
 use Rattle.miter.proofs.both.gate_of.Lts as lts
-use Rattle.miter.proofs.variables.shift.Reads as shift-reads
+use Rattle.miter.proofs.both.shift.Reads as shift-reads
 use Rattle.netlist.proofs.again.gate_at.Reads as gate-at-reads
 
 gate-at-requires : tie.Need-gate-at-requires

@@ -1,69 +1,71 @@
--- Each range of numbers is one part of the miter's gates (`MiterLaws`).
+-- Each range of variables is one part of the miter's gates (`MiterLaws`).
 use native.Mathlib.Omega.{arith}
-use Rattle.miter.proofs.MiterLaws.{left-variable, right-variable, z-variable, w-variable}
+use mathlib.Core.Path.{_∙_}
+use Rattle.miter.proofs.MiterLaws.{gate-variable, z-variable, w-variable, read-variable}
 use borrow.Author.Needs.{needs}
 use Rattle.miter.proofs.variables.variable.Statement.{statement}
 use Rattle.miter.proofs.variables.variable.Tie as tie
 use Rattle.miter.proofs.variables.variable.Reads as reads
 use Rattle.miter.proofs.variables.variable.Lts as lts
-use Rattle.miter.proofs.variables.left_gate.Reads as left-gate-reads
-use Rattle.miter.proofs.variables.right_gate.Reads as right-gate-reads
+use Rattle.miter.proofs.both.gate_of.Reads as gate-of-reads
+use Rattle.miter.proofs.both.outputs_of.Reads as outputs-of-reads
+use Rattle.miter.proofs.variables.defined.Reads as defined-reads
 use Rattle.miter.proofs.variables.w_gate.Reads as w-gate-reads
-use Rattle.miter.proofs.variables.z_gate.Reads as z-gate-reads
+use Rattle.netlist.proofs.Pair.first_gate.Reads as first-gate-reads
+use Rattle.netlist.proofs.Pair.first_w.Reads as first-w-reads
+use Rattle.netlist.proofs.Pair.first_z.Reads as first-z-reads
 
-add-gates : tie.Need-add-gates
-add-gates c = search needs
+first-z-requires : tie.Need-first-z-requires
+first-z-requires c κs = search needs
 
-left-gate-requires : tie.Need-left-gate-requires
-left-gate-requires c κs = search needs
+first-gate-requires : tie.Need-first-gate-requires
+first-gate-requires c κs = search needs
+
+sub-gate-of : tie.Need-sub-gate-of
+sub-gate-of c = search needs
+
+gate-of-requires : tie.Need-gate-of-requires
+gate-of-requires c κs = search needs
+
+defined-requires : tie.Need-defined-requires
+defined-requires c κs = search needs
 
 returns : tie.Need-returns
-returns c w = left-variable w (c .before .before .before .before .args .i) (c .left-gate .result) (omega arith) (c .left-gate .ensures w)
+returns c w i e =
+    read-variable w _ i _ (c .before .gate-of .result) e (omega arith) (c .before .gate-of .ensures w ∙ gate-variable w i _ (omega arith) (omega arith)) (c .defined .ensures)
 
-right-gate-requires : tie.Need-right-gate-requires
-right-gate-requires c κs = search needs
+first-w-requires : tie.Need-first-w-requires
+first-w-requires c κs = search needs
+
+outputs-of-requires : tie.Need-outputs-of-requires
+outputs-of-requires c κs = search needs
+
+defined-requires-2 : tie.Need-defined-requires-2
+defined-requires-2 c κs = search needs
 
 returns-2 : tie.Need-returns-2
-returns-2 c w = right-variable w (c .before .before .before .before .before .args .i) (c .right-gate .result) _ (omega arith) (omega arith) (c .right-gate .ensures w)
-
-add-if3 : tie.Need-add-if3
-add-if3 c = search needs
-
-z-gate-requires : tie.Need-z-gate-requires
-z-gate-requires c κs = search needs
-
-returns-3 : tie.Need-returns-3
-returns-3 c w = z-variable w (c .before .before .before .before .before .before .args .i) (c .z-gate .result) _ (omega arith) (omega arith) (c .z-gate .ensures w)
-
-add-w-gate : tie.Need-add-w-gate
-add-w-gate c = search needs
-
-add-w-gate-2 : tie.Need-add-w-gate-2
-add-w-gate-2 c = search needs
-
-sub-w-gate : tie.Need-sub-w-gate
-sub-w-gate c = search needs
+returns-2 c w i e =
+    read-variable w _ i _ (c .before .outputs-of .result) e (omega arith) (c .before .outputs-of .ensures w ∙ z-variable w i _ (omega arith) (omega arith)) (c .defined2 .ensures)
 
 w-gate-requires : tie.Need-w-gate-requires
 w-gate-requires c κs = search needs
 
-returns-4 : tie.Need-returns-4
-returns-4 c w = w-variable w (c .before .before .before .before .before .before .before .args .i) (c .w-gate .result) _ (omega arith) (omega arith) (c .w-gate .ensures)
+returns-3 : tie.Need-returns-3
+returns-3 c w i e = w-variable w _ i _ _ _ _ e (omega arith) (omega arith) (omega arith) (omega arith) (c .w-gate .ensures)
 
 pub variable-spec : {M : Type 1} → statement M
 variable-spec =
     tie.close
     (tie.spec
-    add-gates
-    left-gate-requires
+    first-z-requires
+    first-gate-requires
+    sub-gate-of
+    gate-of-requires
+    defined-requires
     returns
-    right-gate-requires
+    first-w-requires
+    outputs-of-requires
+    defined-requires-2
     returns-2
-    add-if3
-    z-gate-requires
-    returns-3
-    add-w-gate
-    add-w-gate-2
-    sub-w-gate
     w-gate-requires
-    returns-4)
+    returns-3)

@@ -9,17 +9,14 @@ use Rattle.miter.proofs.variables.w_variable.Lts as lts
 returns : tie.Need-returns
 returns c = search needs
 
-add-result : tie.Need-add-result
-add-result c = search needs
-
 sub-result : tie.Need-sub-result
 sub-result c = search needs
 
-add-result-2 : tie.Need-add-result-2
-add-result-2 c = search needs
+add-result : tie.Need-add-result
+add-result c = search needs
 
 returns-2 : tie.Need-returns-2
-returns-2 c = let a = c .before .args in w-behind (a .first) (a .outputs) (a .k) (c .if1 .left)
+returns-2 c = let a = c .before .args in w-behind (a .z) (a .w) (a .k) (c .if1 .left)
 
 pub w-variable-spec : {M : Type 1} → statement M
-w-variable-spec = tie.close (tie.spec returns add-result sub-result add-result-2 returns-2)
+w-variable-spec = tie.close (tie.spec returns sub-result add-result returns-2)

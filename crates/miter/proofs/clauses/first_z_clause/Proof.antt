@@ -5,17 +5,17 @@ use native.Mathlib.Omega.{arith}
 use lib.ListN.{drop}
 use Rattle.model.specs.Miter.{gatesOf}
 use Rattle.laws.specs.MiterOrder.{length-gates}
 use Rattle.miter.specs.Miters.{Lists}
 use Rattle.miter.proofs.MiterLaws.{few-left, few-right}
-use Rattle.emit_laws.specs.Place.{behind, firstZClause}
-use Rattle.emit.proofs.BeginLaws.{few-each, from-two, behind-one, behind-all}
+use Rattle.model.specs.Miter.{behind, firstZClause}
+use Rattle.miter.proofs.ClauseLaws.{few-each, from-first, behind-one, behind-all}
 use borrow.Author.Needs.{needs}
-use Rattle.emit.proofs.begin.first_z_clause.Statement.{statement}
-use Rattle.emit.proofs.begin.first_z_clause.Tie as tie
-use Rattle.emit.proofs.begin.first_z_clause.Reads as reads
-use Rattle.emit.proofs.begin.first_z_clause.Lts as lts
+use Rattle.miter.proofs.clauses.first_z_clause.Statement.{statement}
+use Rattle.miter.proofs.clauses.first_z_clause.Tie as tie
+use Rattle.miter.proofs.clauses.first_z_clause.Reads as reads
+use Rattle.miter.proofs.clauses.first_z_clause.Lts as lts
 use Rattle.miter.proofs.both.op_of.Reads as op-of-reads
-use Rattle.emit.proofs.begin.behind.Reads as behind-reads
+use Rattle.miter.proofs.clauses.behind.Reads as behind-reads
 
 abbrev Inv-loop : tie.InvT-loop
 Inv-loop text pair gates next₀ i₀ next i =
@@ -28,7 +28,7 @@ add-gates : tie.Need-add-gates Inv-loop μ-loop
 add-gates c = let w = c .before .before .pre in omega (arith, few-left w, few-right w)
 
 loop-holds : tie.Need-loop-holds Inv-loop μ-loop
-loop-holds c = (omega arith, omega arith, λ w. from-two (w .left) (w .right))
+loop-holds c = (omega arith, omega arith, λ w. from-first (w .left) (w .right))
 
 op-of-requires : tie.Need-op-of-requires Inv-loop μ-loop
 op-of-requires c κs = search needs
