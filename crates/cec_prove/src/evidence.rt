@@ -1,10 +1,10 @@
 // What the program prints for a stream: both lists as they came and the engine's proof behind them, or one report frame with the refusal.
 use checker::clearing::clear_from;
-use derive::lines::LINE_BYTES;
 use engine::Proved;
 use engine::prove;
 use frame::Frame;
 use frame::kinds::REPORT_BYTES;
+use frame::kinds::RESOLVE_BYTES;
 use frame::write_frame;
 use netlist::Refusal;
 use streams::STREAM_BYTES;
@@ -48,7 +48,7 @@ pub fn evidence(
     let proved = prove_stream(stream, out, work);
     match proved {
         Proved::Lines(lines) => {
-            let behind = LINE_BYTES * lines;
+            let behind = RESOLVE_BYTES * lines;
             Printed {
                 lists: stream.len(),
                 behind,

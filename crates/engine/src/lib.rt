@@ -1,11 +1,11 @@
 // The engine (document 01, 'Folded form and the engine'): two lists in, a proof that they agree out, exactly when each output pair has the
 // same folded form. The first pass folds, the outputs are compared, and the second pass writes the proof.
 use checker::clearing::clear_from;
-use derive::lines::LINE_BYTES;
 use emit::pass::emit;
 use fold::pass::first_apart;
 use fold::pass::fold;
 use frame::fields::clear_bytes;
+use frame::kinds::RESOLVE_BYTES;
 use netlist::Both;
 use netlist::Pair;
 use netlist::Refusal;
@@ -34,7 +34,7 @@ fn folded(text: &[u8], pair: Pair, proof: &mut [u8], work: &mut [u16]) -> Proved
 {
     let gates = pair.left + pair.right;
     let bound = LINES_PER_GATE * gates + LINES_PER_OUTPUT * pair.outputs;
-    if proof.len() < LINE_BYTES * bound {
+    if proof.len() < RESOLVE_BYTES * bound {
         return Proved::Refused(Refusal {
             number: 16,
             line: 0,

@@ -177,24 +177,32 @@ positive-requires : tie.Need-positive-requires Inv-loop μ-loop
 positive-requires c κs = search needs
 
 resolve-on-requires : tie.Need-resolve-on-requires Inv-loop μ-loop
-resolve-on-requires c κs = search needs
+resolve-on-requires c κs =
+    let l = c .before .before .before .before .loop in
+    let first = c .before .before .before .before .before .before .before .out in
+    let b = c .before .before .before .before .before .before .before .before .before .before .before .before .before .before .before .before .before in
+    let bytes : length (first .last .1 .1 .0) ≡ length (now (b .args .proof)) = search needs in
+    record {
+      bytes-for-all = omega (arith, b .pre .1 .bytes-for-all, l .inv .4 .lines, l .inv .0, l .inv .1, first .ensures .0 .lines, l .inv .3 ∙ bytes);
+      numbers = omega (arith, b .pre .1 .numbers, l .inv .4 .clauses, l .inv .0, l .inv .1, first .ensures .0 .clauses);
+    }
 
 same-length : tie.Need-same-length Inv-loop μ-loop
 same-length c =
-    let l = c .before .before .before .before .before .before .loop in
-    let first = c .before .before .before .before .before .before .before .before .before .out in
-    let a = c .before .before .before .before .before .before .before .before .before .before .before .before .before .before .before .before .before .before .before .args in
+    let l = c .before .before .before .before .before .before .before .loop in
+    let first = c .before .before .before .before .before .before .before .before .before .before .out in
+    let a = c .before .before .before .before .before .before .before .before .before .before .before .before .before .before .before .before .before .before .before .before .args in
     let start : length (first .last .1 .1 .0) ≡ length (now (a .proof)) = search needs in
     let end : length (c .before .before .resolve-on .last .0) ≡ length (l .proof) = search needs in
     end ∙ l .inv .3 ∙ start
 
 returns : tie.Need-returns Inv-loop μ-loop
 returns c =
-    let a = c .before .before .before .before .before .before .before .before .before .before .before .before .before .before .before .before .before .before .before .args in
-    let l = c .before .before .before .before .before .before .loop in
-    let gate = c .before .before .before .before .before .before .before .before .before .before .before .outputs-of in
-    let first = c .before .before .before .before .before .before .before .before .before .out in
-    let number = c .before .before .before .last-clause .ensures in
+    let a = c .before .before .before .before .before .before .before .before .before .before .before .before .before .before .before .before .before .before .before .before .args in
+    let l = c .before .before .before .before .before .before .before .loop in
+    let gate = c .before .before .before .before .before .before .before .before .before .before .before .before .outputs-of in
+    let first = c .before .before .before .before .before .before .before .before .before .before .out in
+    let number = c .before .before .before .before .last-clause .ensures in
     let end = c .before .before .resolve-on in (
       record {
         lines = omega (arith, l .inv .4 .lines, l .inv .0, l .inv .1, first .ensures .0 .lines, end .ensures .0 .lines);
@@ -210,7 +218,7 @@ returns c =
           up-to-first (repOf t) (linkOf links) gs _ _ _ (a .kz) _ (gate .result .x) (gate .result .y)
           (omega (arith, many, w .outputs, within w)) x y (first .ensures .1 t links known (omega (arith, below .0)) (omega (arith, below .1))) in
           rw (← last-tree w (repOf t) links _ _ (a .kz) _ _ (l .inv .5) refl k)
-          (up-to-all (repOf t) (linkOf links) gs _ _ _ (a .kz) _ (omega (arith, many, w .outputs, l .inv .1, c .before .before .before .before .before .loop-test .left))
+          (up-to-all (repOf t) (linkOf links) gs _ _ _ (a .kz) _ (omega (arith, many, w .outputs, l .inv .1, c .before .before .before .before .before .before .loop-test .left))
           (l .inv .6 w t links known n _ _ _ one) (rw (number, c .before .before .before .positive .ensures) at (end .ensures .1))),
     )
 
