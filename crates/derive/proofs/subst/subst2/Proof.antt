@@ -1,4 +1,5 @@
 -- One substitution, and a second in its clause where the literals differ.
+use native.Mathlib.Omega.{arith}
 use Rattle.fold_laws.specs.Table.{repOf}
 use Rattle.emit_laws.specs.Trees.Tree.{old}
 use Rattle.emit_laws.specs.Gates.{linkOf}
@@ -22,7 +23,7 @@ returns c =
     let one = c .before .before .before .before .before in
     let g = one .subst1 .ensures in
     let a = one .before .before .before .before .args in
-    (search needs, λ t links k h i. emits-once (repOf t) (linkOf links) (old (a .c)) (a .l .code) (a .m .code) (c .if1 .taken) (g .1 t links k h))
+    (search needs, λ t links k h i. emits-once (repOf t) (linkOf links) (old (a .c)) (a .l .code) (a .m .code) (omega arith) (g .1 t links k h))
 
 subst1-requires-2 : tie.Need-subst1-requires-2
 subst1-requires-2 c κs = search needs
@@ -39,7 +40,7 @@ returns-2 c =
     let g = c .before .before .subst12 .ensures in (
       few-then (f .0) (g .0),
       λ t links k h i.
-          emits-twice (repOf t) (linkOf links) (old (a .c)) (a .l .code) (a .m .code) (test .if1 .left) (f .1 t links k h) (g .1 t links k i),
+          emits-twice (repOf t) (linkOf links) (old (a .c)) (a .l .code) (a .m .code) (λ e. omega arith) (f .1 t links k h) (g .1 t links k i),
     )
 
 pub subst2-spec : {M : Type 1} → statement M

@@ -1,5 +1,6 @@
 -- The first number of the net's row, complemented for an odd literal.
-use mathlib.Core.Path.{sym, _∙_}
+use mathlib.Core.Path.{_∙_}
+use native.Mathlib.Omega.{arith}
 use Rattle.table.proofs.RowLaws.{even-rep, odd-rep}
 use borrow.Author.Needs.{needs}
 use Rattle.table.proofs.rows.representative.Statement.{statement}
@@ -41,7 +42,7 @@ sign-requires c κs = search needs
 returns-2 : tie.Need-returns-2
 returns-2 c t h n =
     let rep = c .before .before in
-    rep .of2 .ensures ∙ rw (rep .before .before .before .variable .ensures) (even-rep h _ n (sym (c .before .sign .ensures) ∙ c .if2 .taken))
+    rep .of2 .ensures ∙ rw (rep .before .before .before .variable .ensures) (even-rep h _ n (omega (arith, c .before .sign .ensures)))
 
 complement-requires : tie.Need-complement-requires
 complement-requires c κs = search needs
@@ -50,7 +51,7 @@ returns-3 : tie.Need-returns-3
 returns-3 c t h n =
     let test = c .before in
     let rep = test .before .before in
-    rw (c .complement .ensures, rep .of2 .ensures, rep .before .before .before .variable .ensures) (odd-rep h _ n (λ e. test .if2 .left (test .before .sign .ensures ∙ e)))
+    rw (c .complement .ensures, rep .of2 .ensures, rep .before .before .before .variable .ensures) (odd-rep h _ n (λ e. omega (arith, test .before .sign .ensures)))
 
 pub representative-spec : {M : Type 1} → statement M
 representative-spec =
