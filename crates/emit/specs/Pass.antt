@@ -7,7 +7,7 @@ use lib.ListN.{length}
 use Rattle.model.specs.Limits.{mostClauses, proofLineBytes}
 use Rattle.model.specs.Answers.{filled}
 use Rattle.model.specs.Nets.{Gate, Netlist, odd}
-use Rattle.model.specs.Miter.{firstGate, gatesOf}
+use Rattle.model.specs.Miter.{firstGate, gatesOf, firstGateClause}
 use Rattle.fold_laws.specs.Table.{Entry, repOf}
 use Rattle.fold_laws.specs.Engine.{bothTable}
 use Rattle.emit_laws.specs.Replay.{Resolution}
@@ -70,7 +70,7 @@ pub record GateDone (p : List ℕ) (s : Progress) (q work : List ℕ) (start : �
 
 -- the gates of both lists, where n clauses are there before
 abbrev pub gatesDone : List Entry → Netlist → Netlist → ℕ → model.Done
-gatesDone t a b n = loop (repOf t) (startLinks (a .inputs)) n 2 (firstGate a) (gatesOf a b)
+gatesDone t a b n = loop (repOf t) (startLinks (a .inputs)) n firstGateClause (firstGate a) (gatesOf a b)
 
 pub record AllDone (p : List ℕ) (s : Progress) (q work : List ℕ) (start : ℕ) (r : Progress) (t : List Entry) (a b : Netlist) : Type 0 where
   pub adds : Adds p s q r (gatesDone t a b (s .clauses) .lines)

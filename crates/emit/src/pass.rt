@@ -26,6 +26,7 @@ ghost use Prim.Native.Nat.{ℕ, _+_, _*_, _<_, _≤_};
 ghost use lib.ListN.{length};
 ghost use Rattle.model.specs.Limits.{linesPerGate, linesPerOutput, proofLineBytes, numbersPerNet, highestVariable};
 ghost use Rattle.model.specs.Nets.{readsBelow};
+ghost use Rattle.model.specs.Miter.{firstGateClause};
 ghost use Rattle.laws.specs.Pairs.{isXor};
 ghost use Rattle.fold_laws.specs.Table.{Entry};
 ghost use Rattle.fold_laws.specs.Engine.{bothTable};
@@ -148,7 +149,7 @@ fn gates(
     at: Progress,
 ) -> Progress
     requires { ⌜ Lists (now text) pair × ProgressRoom (length (now proof)) at (linesPerGate * (pair .left + pair .right))
-        × (start + linkWidth * (1 + pair .inputs + pair .left + pair .right) ≤ length (now work)) × (at .next ≡ 2) ⌝ }
+        × (start + linkWidth * (1 + pair .inputs + pair .left + pair .right) ≤ length (now work)) × (at .next ≡ firstGateClause) ⌝ }
     ensures few { λ r. ⌜ (r .lines ≤ at .lines + linesPerGate * (pair .left + pair .right)) × (r .clauses ≤ at .clauses + linesPerGate * (pair .left + pair .right)) ⌝ }
     ensures done { λ r. ⌜ ((w : Lists (now (text .entry)) pair) (t : List Entry) → Known (now (work .entry)) start t (startLinks (pair .inputs))
         → length t ≡ 1 + pair .inputs + pair .left + pair .right → AllDone (now (proof .entry)) at (now (proof .exit)) (now (work .exit)) start r t (w .left) (w .right)) ⌝ }

@@ -136,19 +136,19 @@ module _ (a b : Netlist) (ab : pairs.Pair a b) where
   z-of j d h = zs-at (a .inputs) (length (a .gates)) (a .outs) (b .outs) j d h (omega (arith, ab .outs))
 
   -- the miter's gates, part by part
-  pub gates-at : (i : ℕ) (d : Gate) → i < length (gatesOf a b) → getD (miterGates a b) i d ≡ getD (gatesOf a b) i d
+  gates-at : (i : ℕ) (d : Gate) → i < length (gatesOf a b) → getD (miterGates a b) i d ≡ getD (gatesOf a b) i d
   unfolding miterGates
   gates-at i d h =
       List·getD-append (gatesOf a b ++ zGates a b) (wGates a b) d i (omega (arith, length-append (gatesOf a b) (zGates a b)))
       ∙ List·getD-append (gatesOf a b) (zGates a b) d i h
 
-  pub z-at : (j : ℕ) (d : Gate) → j < length (zGates a b) → getD (miterGates a b) (length (gatesOf a b) + j) d ≡ getD (zGates a b) j d
+  z-at : (j : ℕ) (d : Gate) → j < length (zGates a b) → getD (miterGates a b) (length (gatesOf a b) + j) d ≡ getD (zGates a b) j d
   unfolding miterGates
   z-at j d h =
       List·getD-append (gatesOf a b ++ zGates a b) (wGates a b) d (length (gatesOf a b) + j) (omega (arith, length-append (gatesOf a b) (zGates a b)))
       ∙ getD-append-add (gatesOf a b) (zGates a b) j d
 
-  pub w-at : (j : ℕ) (d : Gate) → j + 1 < length (a .outs)
+  w-at : (j : ℕ) (d : Gate) → j + 1 < length (a .outs)
       → getD (miterGates a b) (length (gatesOf a b ++ zGates a b) + j) d ≡ wGate (firstZ a b) (firstW a b) j
   unfolding miterGates
   w-at j d h =
