@@ -1,18 +1,17 @@
 -- The join of two copies, turn by turn. The lowest of two heads is the head of the join, and behind it the join goes on with what is left; so
 -- after k turns the array has the first k literals of the join (`Joining`), also where the join ended before.
-use Prim.Native.Nat.{ℕ, zero, suc, _+_, _<_, _≤_}
+use Prim.Native.Nat.{ℕ, zero, suc, _+_, _-_, _<_, _≤_}
 use mathlib.Core.Path.{_≡_, refl, sym, ap, _∙_}
 use mathlib.Core.Bool.{true, false, and-false}
 use mathlib.Core.List.{List, [], _∷_}
 use native.Mathlib.Numerals.{add-one}
-use native.Mathlib.Nat.{add-zero}
 use native.Mathlib.Omega.{arith}
-use borrow.Author.Tests.{le-leb, lt-leb}
-use lib.ListN.{length, take, drop, set, length-drop, drop-of-length-le}
+use borrow.Author.Tests.{lt-leb}
+use lib.ListN.{length, take, drop, set}
 use lib.Seq.{drop-drop, take-all}
 use Rattle.model.specs.Limits.{clauseWidth}
 use Rattle.model.specs.Answers.{Answer, guard}
-use Rattle.model.specs.Answers.Answer.{ok, refused}
+use Rattle.model.specs.Answers.Answer.{refused}
 use Rattle.model.specs.Clauses.{Clause, positive, negative, holds, join, resolvent}
 use Rattle.clause.specs.Sets.{literalBound, headOf, Rising, filled, literalsOf, Holds, fitted, resolveOf, outcomeOf, Answers}
 use Rattle.clause.specs.declared.resolution.Outcome.{Outcome}
@@ -61,7 +60,7 @@ turn-begins c d lowest p q r s t g h =
 -- ---- a count of literals
 
 -- one place more of a clause has one literal more, if it has one
-taken-more : (k t : ℕ) (c : Clause) → Rising c → (headOf (drop k c) ≤ 65534 → t ≡ 1) × (65534 < headOf (drop k c) → t ≡ 0)
+taken-more : (k t : ℕ) (c : Clause) → Rising c → Goes (headOf (drop k c)) (literalBound - 1) t
     → length (take k c) + t ≡ length (take (suc k) c)
 taken-more zero t [] r h = omega (arith, h .1 (omega arith))
 taken-more zero t (x ∷ c) r h = omega (arith, h .0 (omega (arith, head-below x c r)))
@@ -103,7 +102,7 @@ module _ {c d : Clause} {literals : List ℕ} {len i j k x y lowest : ℕ} (r : 
       (λ o. begins 0 1 (λ z. absurd (omega arith), λ _. refl) (λ _. refl, λ z. absurd (omega arith)) .head)
       (λ o. begins 1 1 (λ _. refl, λ z. absurd (omega arith)) (λ _. refl, λ z. absurd (omega arith)) .head)
 
-  pub joining-turn : (p q t : ℕ) → Goes x y p → Goes y x q → Goes lowest 65534 t → k < clauseWidth
+  pub joining-turn : (p q t : ℕ) → Goes x y p → Goes y x q → Goes lowest (literalBound - 1) t → k < clauseWidth
       → Joining c d (set literals k lowest) (len + t) (i + p) (j + q) (k + 1)
   joining-turn p q t g₁ g₂ count n =
       record {

@@ -31,10 +31,6 @@ above-from x (suc k) (y ∷ c) h r = above-from x k c (omega (arith, r .0)) (r .
 
 -- ---- filled arrays
 
-pub filled-length : (n : ℕ) (c : Clause) → length (filled n c) ≡ n
-filled-length zero c = refl
-filled-length (suc n) c = ap suc (filled-length n (drop 1 c))
-
 pub filled-at : (n k : ℕ) (c : Clause) → k < n → getD (filled n c) k 0 ≡ headOf (drop k c)
 filled-at zero k c h = absurd (omega arith)
 filled-at (suc n) zero c h = refl

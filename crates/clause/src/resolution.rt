@@ -120,11 +120,11 @@ fn at(a: &[u16; Clause::WIDTH], i: usize) -> u16
     Literal::BOUND
 }
 
-// Whether a join ends at place k, which is asked once, half way: most clauses are short, and the branch is taken always or never.
+// Whether a join ends at place k. This is asked in the first half: many short clauses in a row end alike, and long ones each elsewhere.
 fn ends(k: usize, lowest: u16) -> bool
     ensures { λ r. ⌜ (r ≡ true → lowest ≡ literalBound) ⌝ }
 {
-    if k == Clause::WIDTH / 2 {
+    if k <= Clause::WIDTH / 2 {
         return lowest == Literal::BOUND;
     }
     false

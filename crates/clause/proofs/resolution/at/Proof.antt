@@ -1,8 +1,7 @@
 -- Within the array it is the copy's place (`filled-at`); behind it no literal is left.
 use native.Mathlib.Omega.{arith}
-use mathlib.Core.Path.{ap, sym, _∙_}
-use denote.Ref.{now}
-use lib.ListN.{getD, drop-of-length-le}
+use mathlib.Core.Path.{ap, sym}
+use lib.ListN.{drop-of-length-le}
 use Rattle.model.specs.Limits.{clauseWidth}
 use Rattle.clause.specs.Sets.{headOf}
 use Rattle.clause.proofs.PlaceLaws.{filled-at}

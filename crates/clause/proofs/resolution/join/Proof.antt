@@ -1,8 +1,8 @@
 -- The invariant is `Joining` for every two clauses that the arrays copy: after k turns the array has the first k literals of their join.
 use borrow.Author.Needs.{needs}
 use native.Mathlib.Omega.{arith}
-use Prim.Native.Nat.{ℕ, _≤_, _+_, _-_}
-use mathlib.Core.Path.{_≡_, refl, sym, ap, _∙_}
+use Prim.Native.Nat.{_≤_, _-_}
+use mathlib.Core.Path.{_≡_, refl}
 use lib.ListN.{length, length-set}
 use Rattle.model.specs.Limits.{clauseWidth}
 use Rattle.model.specs.Clauses as model

@@ -1,11 +1,11 @@
 -- The struct has the clause that was joined, and it has room.
-use mathlib.Core.Path.{refl, sym, ap, _∙_}
+use mathlib.Core.Path.{ap}
 use borrow.Author.Tests.{le-leb}
-use lib.ListN.{length, take}
+use lib.ListN.{length}
 use Rattle.model.specs.Answers.{guard}
 use Rattle.model.specs.Answers.Answer.{ok}
 use Rattle.model.specs.Limits.{clauseWidth}
-use Rattle.clause.specs.Sets.{fitted, filled, Holds}
+use Rattle.clause.specs.Sets.{fitted, Holds}
 use Rattle.clause.proofs.PlaceLaws.{filled-front, holds-own}
 use Rattle.clause.proofs.resolution.joined.Statement.{statement}
 use Rattle.clause.proofs.resolution.joined.Tie as tie

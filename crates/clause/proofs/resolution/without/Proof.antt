@@ -2,14 +2,14 @@
 use borrow.Author.Needs.{needs}
 use native.Mathlib.Omega.{arith}
 use native.Mathlib.Numerals.{add-one}
-use Prim.Native.Nat.{ℕ, _≤_, _<_, _+_, _-_}
-use mathlib.Core.Path.{_≡_, refl, sym, ap, _∙_}
+use Prim.Native.Nat.{_≤_, _-_}
+use mathlib.Core.Path.{_≡_, refl, ap, _∙_}
 use mathlib.Core.Bool.{true}
-use lib.ListN.{length, take, drop, length-set}
+use lib.ListN.{length, take, length-set}
 use lib.Seq.{take-all}
 use Rattle.model.specs.Limits.{clauseWidth}
 use Rattle.model.specs.Clauses as model
-use Rattle.clause.specs.Sets.{headOf, filled, Stores}
+use Rattle.clause.specs.Sets.{filled, Stores}
 use Rattle.clause.proofs.SetLaws.{rising-without, length-without}
 use Rattle.clause.proofs.PlaceLaws.{place-out, filled-next}
 use Rattle.clause.proofs.resolution.without.Statement.{statement}
