@@ -1,3 +1,4 @@
 pub mod SetLaws
-pub mod MergeLaws
 pub mod StoreLaws
+pub mod PlaceLaws
+pub mod JoinLaws

@@ -1,35 +1,56 @@
 -- Laws of clauses as rising lists. A literal below all others comes out first of a join, from whichever side, so a merge of rising lists is
 -- their join; what is taken out or put in leaves a list rising.
-use Prim.Native.Nat.{ℕ, _<_}
+use Prim.Native.Nat.{ℕ, _<_, _≤_}
 use mathlib.Core.Path.{_≡_, refl, sym, ap, _∙_}
 use mathlib.Core.Bool.{Bool, true, false}
 use mathlib.Core.List.{List, [], _∷_}
 use native.Mathlib.Omega.{arith}
 use lib.Dec.{eqb, ltb}
+use lib.ListN.{length, drop}
 use borrow.Author.Tests.{lt-ltb, le-ltb, eq-eqb, ne-eqb, ltb-true, ltb-false, eqb-true, eqb-false}
 use Rattle.model.specs.Clauses.{Clause, insert, join, clauseOf, without, holds, positive, negative, resolvent}
 use Rattle.laws.specs.Bools.{by-cond}
 use Rattle.clause.specs.Sets.{literalBound, headOf, Rising}
 
+-- ---- rising
+
+pub head-below : (x : ℕ) (c : Clause) → Rising (x ∷ c) → x < literalBound
+head-below x [] r = r .0
+head-below x (y ∷ c) r = let h : y < literalBound = head-below y c (r .1) in omega (arith, r .0)
+
 -- ---- taking out
 
-pub holds-found : {c s : Clause} (l x : ℕ) → c ≡ x ∷ s → x ≡ l → holds l c ≡ true
+pub holds-more : (l x : ℕ) (c : Clause) → (x ≡ l → ⊥) → holds l (x ∷ c) ≡ holds l c
 unfolding holds
-holds-found l x e h = rw (e, eq-eqb l x (sym h))
+holds-more l x c h = rw (ne-eqb l x (λ e. h (sym e)))
 
-pub holds-more : {c s : Clause} (l x : ℕ) → c ≡ x ∷ s → (x ≡ l → ⊥) → holds l s ≡ holds l c
+pub holds-first : (l : ℕ) (c : Clause) → headOf c ≡ l → l < literalBound → holds l c ≡ true
 unfolding holds
-holds-more l x e h = rw (e, ne-eqb l x (λ k. h (sym k)))
+holds-first l [] e h = absurd (omega arith)
+holds-first l (x ∷ c) e h = rw (eq-eqb l x (sym e))
 
-pub without-found : {c s : Clause} (l x : ℕ) → c ≡ x ∷ s → x ≡ l → without l c ≡ without l s
+pub holds-rest : (l : ℕ) (c : Clause) → (headOf c ≡ l → ⊥) → holds l c ≡ holds l (drop 1 c)
+unfolding holds
+holds-rest l [] h = refl
+holds-rest l (x ∷ c) h = holds-more l x c h
+
+-- a literal below all of a rising clause is not in it, nor is one from the bound on
+pub not-below : (l : ℕ) (c : Clause) → Rising c → l < headOf c → holds l c ≡ false
+unfolding holds
+not-below l [] r h = refl
+not-below l (x ∷ c) r h = holds-more l x c (λ e. omega arith) ∙ not-below l c (r .1) (omega (arith, r .0))
+
+pub not-above : (l : ℕ) (c : Clause) → Rising c → literalBound ≤ l → holds l c ≡ false
+unfolding holds
+not-above l [] r h = refl
+not-above l (x ∷ c) r h = holds-more l x c (λ e. omega (arith, head-below x c r)) ∙ not-above l c (r .1) h
+
+pub without-none : (l : ℕ) (c : Clause) → Rising c → l < headOf c → without l c ≡ c
 unfolding without
-without-found l x e h = rw (e, eq-eqb l x (sym h))
+without-none l [] r h = refl
+without-none l (x ∷ c) r h = rw (ne-eqb l x (λ e. omega arith)) (ap (λ (t : Clause). x ∷ t) (without-none l c (r .1) (omega (arith, r .0))))
 
-pub without-more : {c s : Clause} (l x : ℕ) → c ≡ x ∷ s → (x ≡ l → ⊥) → without l c ≡ x ∷ without l s
-unfolding without
-without-more l x e h = rw (e, ne-eqb l x (λ k. h (sym k)))
-
-pub head-without : (l k : ℕ) (c : Clause) → k < headOf c → Rising c → k < headOf (without l c)
+head-without : (l k : ℕ) (c : Clause) → k < headOf c → Rising c → k < headOf (without l c)
 unfolding without
 head-without l k [] h r = h
 head-without l k (x ∷ c) h r =
@@ -41,6 +62,13 @@ rising-without l [] r = tt
 rising-without l (x ∷ c) r =
     let rest : Rising (without l c) = rising-without l c (r .1) in
     by-cond Rising (eqb l x) (λ e. rest) (λ e. (head-without l x c (r .0) (r .1), rest))
+
+pub length-without : (l : ℕ) (c : Clause) → length (without l c) ≤ length c
+unfolding without
+length-without l [] = omega arith
+length-without l (x ∷ c) =
+    let n : length (without l c) ≤ length c = length-without l c in
+    by-cond (λ (d : Clause). length d ≤ length (x ∷ c)) (eqb l x) (λ e. omega arith) (λ e. omega arith)
 
 -- ---- putting in
 
@@ -157,10 +185,6 @@ three-cba a b c h k = ap (insert c) (two-falling a b k) ∙ before b a c k h
 
 -- ---- a clause is rising
 
-pub head-below : (x : ℕ) (c : Clause) → Rising (x ∷ c) → x < literalBound
-head-below x [] r = r .0
-head-below x (y ∷ c) r = let h : y < literalBound = head-below y c (r .1) in omega (arith, r .0)
-
 head-insert : (k l : ℕ) (c : Clause) → k < l → k < headOf c → k < headOf (insert l c)
 unfolding insert
 head-insert k l [] h g = h
@@ -183,21 +207,22 @@ abbrev pub Small : List ℕ → Type 0
 Small [] = Unit {0}
 Small (l ∷ ls) = (l < literalBound) × Small ls
 
-rising-join : (c : Clause) (ls : List ℕ) → Small ls → Rising c → Rising (join c ls)
+put-rising : (c : Clause) (ls : List ℕ) → Small ls → Rising c → Rising (join c ls)
 unfolding join
-rising-join c [] s r = r
-rising-join c (l ∷ ls) s r = rising-join (insert l c) ls (s .1) (rising-insert l c (s .0) r)
+put-rising c [] s r = r
+put-rising c (l ∷ ls) s r = put-rising (insert l c) ls (s .1) (rising-insert l c (s .0) r)
 
 rising-small : (c : Clause) → Rising c → Small c
 rising-small [] r = tt
 rising-small (x ∷ c) r = (head-below x c r, rising-small c (r .1))
 
--- a clause of literals that the store can hold is rising, and so is a resolvent of rising clauses
+-- a clause of literals that the store can hold is rising, and so are the join and a resolvent of rising clauses
 pub rising-clause : (ls : List ℕ) → Small ls → Rising (clauseOf ls)
-rising-clause ls s = rising-join [] ls s tt
+rising-clause ls s = put-rising [] ls s tt
+
+pub rising-join : (c d : Clause) → Rising c → Rising d → Rising (join c d)
+rising-join c d r s = put-rising c d (rising-small d s) r
 
 pub rising-resolvent : (v : ℕ) (a b : Clause) → Rising a → Rising b → Rising (resolvent v a b)
 unfolding resolvent
-rising-resolvent v a b r s =
-    let t : Rising (without (negative v) b) = rising-without (negative v) b s in
-    rising-join (without (positive v) a) (without (negative v) b) (rising-small (without (negative v) b) t) (rising-without (positive v) a r)
+rising-resolvent v a b r s = rising-join _ _ (rising-without (positive v) a r) (rising-without (negative v) b s)

@@ -1,5 +1,5 @@
--- What structs and numbers of the store say of clauses, and what a resolution step answers.
-use Prim.Native.Nat.{ℕ, zero, suc, _*_, _<_, _≤_}
+-- What structs, arrays and numbers of the store say of clauses, and what a resolution step answers.
+use Prim.Native.Nat.{ℕ, zero, suc, _<_, _≤_}
 use mathlib.Core.Path.{_≡_}
 use mathlib.Core.List.{List, [], _∷_}
 use lib.Dec.{leb}
@@ -10,6 +10,7 @@ use Rattle.model.specs.Answers.Answer.{ok, refused}
 use Rattle.model.specs.Clauses as model
 use Rattle.model.specs.Clauses.{resolvent}
 use Rattle.model.specs.Steps.{canResolve}
+use Rattle.model.specs.Checker.{stored}
 use Rattle.clause.specs.declared.Clause.{Clause}
 use Rattle.clause.specs.declared.resolution.Outcome.{Outcome}
 use Rattle.clause.specs.declared.resolution.Outcome.the-variants.{Joined, Missing, TooLong}
@@ -31,7 +32,17 @@ abbrev pub Rising : model.Clause → Type 0
 Rising [] = Unit {0}
 Rising (x ∷ c) = (x < headOf c) × Rising c
 
--- ---- clauses by value
+-- a clause that the store can hold
+pub record Proper (c : model.Clause) : Type 0 where
+  pub rising : Rising c
+  pub width : length c ≤ clauseWidth
+
+-- ---- clauses by value, in arrays and in the store
+
+-- so many places: the literals, and behind the last the bound
+abbrev pub filled : ℕ → model.Clause → List ℕ
+filled zero c = []
+filled (suc n) c = headOf c ∷ filled n (drop 1 c)
 
 -- the struct's literals
 abbrev pub literalsOf : Clause → model.Clause
@@ -42,42 +53,27 @@ pub record Holds (c : Clause) (l : model.Clause) : Type 0 where
   pub room : c .len ≤ clauseWidth
   pub size : c .len ≡ length l
   pub same : literalsOf c ≡ l
+  pub whole : c .literals ≡ filled clauseWidth l
 
--- ---- clauses of the store
+-- the array has the clause's literals, then the bound
+pub record Copies (l : List ℕ) (c : model.Clause) : Type 0 where
+  pub proper : Proper c
+  pub same : l ≡ filled clauseWidth c
 
--- the clause that numbers of the store hold: each literal plus one, up to a zero
-abbrev pub clauseIn : List ℕ → model.Clause
-clauseIn [] = []
-clauseIn (zero ∷ s) = []
-clauseIn (suc x ∷ s) = x ∷ clauseIn s
-
--- the clause of eight k, from 0
-abbrev pub clauseAt : List ℕ → ℕ → model.Clause
-clauseAt store k = clauseIn (take clauseWidth (drop (clauseWidth * k) store))
-
--- past the end of a clause: above every literal and every pivot
-abbrev pub end : ℕ
-end = 131072
-
--- the first literal, and past the end that number
-abbrev pub nextOf : model.Clause → ℕ
-nextOf [] = end
-nextOf (x ∷ c) = x
-
--- the number is the first literal, or that for the end
-pub record Head (c : model.Clause) (x : ℕ) : Type 0 where
-  pub same : x ≡ nextOf c
-  pub most : x ≤ end
-  pub small : x < end → x < 65536
+-- the numbers are the clause as it is put into the store
+pub record Stores (s : List ℕ) (c : model.Clause) : Type 0 where
+  pub proper : Proper c
+  pub same : s ≡ stored c
 
 -- ---- a resolution step
 
--- 10 unless 'the first clause holds v, the second ¬v'; 11 for a 'result over 8 literals'; else the resolvent
+-- 11 for a result of too many literals; else the result
+unfoldable pub fitted : model.Clause → ℕ → Answer model.Clause
+fitted c line = guard (leb (length c) clauseWidth) 11 line (ok c)
+
+-- 10 unless 'the first clause holds v, the second ¬v'; then the resolvent, or 11
 unfoldable pub resolveOf : ℕ → model.Clause → model.Clause → ℕ → Answer model.Clause
-resolveOf v first second line =
-    guard (canResolve v first second) 10 line
-    (guard (leb (length (resolvent v first second)) clauseWidth) 11 line
-    (ok (resolvent v first second)))
+resolveOf v first second line = guard (canResolve v first second) 10 line (fitted (resolvent v first second) line)
 
 abbrev pub outcomeOf : Outcome → model.Clause → ℕ → Answer model.Clause
 outcomeOf Joined c line = ok c
@@ -87,8 +83,7 @@ outcomeOf TooLong c line = refused 11 line
 abbrev pub answerOf : Resolved → ℕ → Answer model.Clause
 answerOf r line = outcomeOf (r .outcome) (literalsOf (r .clause)) line
 
--- the struct gives the answer, on every line, and its clause has room
+-- the struct gives the answer, on every line, and its clause is one
 pub record Answers (r : Resolved) (a : ℕ → Answer model.Clause) : Type 0 where
-  pub room : r .clause .len ≤ clauseWidth
-  pub size : r .clause .len ≡ length (literalsOf (r .clause))
+  pub held : Holds (r .clause) (literalsOf (r .clause))
   pub same : (line : ℕ) → answerOf r line ≡ a line

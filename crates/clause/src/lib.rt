@@ -9,7 +9,7 @@ ghost use mathlib.Core.List.{[], _∷_};
 ghost use Rattle.model.specs.Clauses.{clauseOf};
 ghost use Rattle.clause.specs.Sets.{Holds};
 
-// The literals in use are the first `len`.
+// The literals in use are the first `len`; behind them stands Literal::BOUND.
 pub struct Clause {
     pub literals: [u16; Clause::WIDTH],
     pub len: usize,
@@ -22,7 +22,7 @@ impl Clause {
     pub fn of_one(x: Literal) -> Clause
         ensures { λ r. ⌜ Holds r (clauseOf (x .code ∷ [])) ⌝ }
     {
-        let mut literals = [0; Clause::WIDTH];
+        let mut literals = [Literal::BOUND; Clause::WIDTH];
         literals[0] = x.code;
         Clause { literals, len: 1 }
     }
@@ -79,7 +79,7 @@ impl Clause {
 fn rising_two(a: u16, b: u16) -> Clause
     ensures { λ r. ⌜ Holds r (a ∷ b ∷ []) ⌝ }
 {
-    let mut literals = [0; Clause::WIDTH];
+    let mut literals = [Literal::BOUND; Clause::WIDTH];
     literals[0] = a;
     literals[1] = b;
     Clause { literals, len: 2 }
@@ -89,7 +89,7 @@ fn rising_two(a: u16, b: u16) -> Clause
 fn rising_three(a: u16, b: u16, c: u16) -> Clause
     ensures { λ r. ⌜ Holds r (a ∷ b ∷ c ∷ []) ⌝ }
 {
-    let mut literals = [0; Clause::WIDTH];
+    let mut literals = [Literal::BOUND; Clause::WIDTH];
     literals[0] = a;
     literals[1] = b;
     literals[2] = c;

@@ -1,16 +1,15 @@
-// One resolution step (document 01, 'Steps') on two clauses of the store: one merge of their rising literals, which leaves the pivots out and
-// notes that it met them. Only the result is built.
+// One resolution step (document 01, 'Steps') on two clauses as `save` leaves them in the store. Each is copied without its pivot, and the copies
+// are joined. No branch asks where a pivot stands, which of two literals is lower or where a clause ends, since such branches are mispredicted.
 use crate::Clause;
+use literal::Literal;
 ghost use mathlib.Core.Path.{_≡_};
-ghost use mathlib.Core.Bool.{_&&_};
+ghost use mathlib.Core.Bool.{true};
 ghost use mathlib.Core.List.{[]};
-ghost use Prim.Native.Nat.{_+_, _*_, _<_, _≤_};
-ghost use lib.ListN.{drop, length, take};
+ghost use Prim.Native.Nat.{_<_, _≤_};
+ghost use lib.ListN.{drop, length};
 ghost use Rattle.model.specs.Limits.{clauseWidth};
-ghost use Rattle.model.specs.Answers.{guard};
-ghost use Rattle.model.specs.Answers.Answer.{ok};
-ghost use Rattle.model.specs.Clauses.{holds, resolvent};
-ghost use Rattle.clause.specs.Sets.{Rising, Holds, Answers, Head, resolveOf, clauseIn, clauseAt};
+ghost use Rattle.model.specs.Clauses as model;
+ghost use Rattle.clause.specs.Sets.{literalBound, headOf, filled, Holds, Stores, Copies, fitted, resolveOf, Answers};
 
 pub enum Outcome {
     Joined,
@@ -28,76 +27,15 @@ fn refusal(outcome: Outcome) -> Resolved
     ensures { λ r. ⌜ (r .outcome ≡ outcome) × Holds (r .clause) [] ⌝ }
 {
     let clause = Clause {
-        literals: [0; Clause::WIDTH],
+        literals: [Literal::BOUND; Clause::WIDTH],
         len: 0,
     };
     Resolved { outcome, clause }
 }
 
-// Past the end of a clause: above every literal and every pivot. 65535 is also a pivot, 2 × 32767 + 1.
-const END: u32 = 131072;
-
-// The literal at place i of an eight, and past the end END.
-fn head(s: &[u16], i: usize) -> u32
-    requires { ⌜ length (now s) ≡ clauseWidth ⌝ }
-    ensures { λ r. ⌜ Head (clauseIn (drop i (now (s .entry)))) r ⌝ }
+fn joined(literals: [u16; Clause::WIDTH], len: usize) -> Resolved
+    ensures { λ r. ⌜ ((c : model.Clause) → length c ≤ clauseWidth → len ≡ length c → literals ≡ filled clauseWidth c → Answers r (fitted c)) ⌝ }
 {
-    if i < Clause::WIDTH {
-        let x = s[i] as u32;
-        if x == 0 {
-            return END;
-        }
-        return x - 1;
-    }
-    END
-}
-
-// Whether the clause of an eight holds a literal.
-fn contains(s: &[u16], literal: u32) -> bool
-    requires { ⌜ length (now s) ≡ clauseWidth ⌝ }
-    ensures { λ r. ⌜ r ≡ holds literal (clauseIn (now (s .entry))) ⌝ }
-{
-    let mut i: usize = 0;
-    while i < Clause::WIDTH {
-        let x = s[i] as u32;
-        if x == 0 {
-            return false;
-        }
-        if literal == x - 1 {
-            return true;
-        }
-        i += 1;
-    }
-    false
-}
-
-// The answer where the result is too long. A missing pivot comes first, and the merge that stopped has not looked for it to the end.
-fn too_long(first: &[u16], second: &[u16], v: u16) -> Resolved
-    requires { ⌜ (length (now first) ≡ clauseWidth) × (length (now second) ≡ clauseWidth)
-        × (clauseWidth < length (resolvent v (clauseIn (now first)) (clauseIn (now second)))) ⌝ }
-    ensures { λ r. ⌜ Answers r (resolveOf v (clauseIn (now (first .entry))) (clauseIn (now (second .entry)))) ⌝ }
-{
-    let positive = 2 * (v as u32);
-    if !contains(first, positive) {
-        return refusal(Outcome::Missing);
-    }
-    if !contains(second, positive + 1) {
-        return refusal(Outcome::Missing);
-    }
-    refusal(Outcome::TooLong)
-}
-
-// The merge is at its end, and p and q say whether the pivots were met.
-fn finish(literals: [u16; Clause::WIDTH], len: usize, p: bool, q: bool) -> Resolved
-    requires { ⌜ len ≤ clauseWidth ⌝ }
-    ensures { λ r. ⌜ Answers r (λ line. guard (p && q) 10 line (ok (take len literals))) ⌝ }
-{
-    if !p {
-        return refusal(Outcome::Missing);
-    }
-    if !q {
-        return refusal(Outcome::Missing);
-    }
     let clause = Clause { literals, len };
     Resolved {
         outcome: Outcome::Joined,
@@ -105,61 +43,139 @@ fn finish(literals: [u16; Clause::WIDTH], len: usize, p: bool, q: bool) -> Resol
     }
 }
 
-// The step on two eights. The pivots are 32-bit numbers, so that none wraps.
-fn merge(first: &[u16], second: &[u16], v: u16) -> Resolved
-    requires { ⌜ (length (now first) ≡ clauseWidth) × (length (now second) ≡ clauseWidth) × Rising (clauseIn (now first)) × Rising (clauseIn (now second)) ⌝ }
-    ensures { λ r. ⌜ Answers r (resolveOf v (clauseIn (now (first .entry))) (clauseIn (now (second .entry)))) ⌝ }
+// 1 if x is at most y, else 0.
+fn at_most(x: u16, y: u16) -> usize
+    ensures { λ r. ⌜ (r ≤ 1) × (x ≤ y → r ≡ 1) × (y < x → r ≡ 0) ⌝ }
 {
-    let p = 2 * (v as u32);
-    let q = p + 1;
-    let mut literals = [0; Clause::WIDTH];
-    let mut n: usize = 0;
-    let mut i: usize = 0;
-    let mut j: usize = 0;
-    let mut met_p = false;
-    let mut met_q = false;
-    loop {
-        let x = head(first, i);
-        let y = head(second, j);
-        if x == p {
-            met_p = true;
-            i += 1;
-        } else if y == q {
-            met_q = true;
-            j += 1;
-        } else if x + y == 2 * END {
-            return finish(literals, n, met_p, met_q);
-        } else if n == Clause::WIDTH {
-            return too_long(first, second, v);
-        } else if x < y {
-            literals[n] = x as u16;
-            n += 1;
-            i += 1;
-        } else if y < x {
-            literals[n] = y as u16;
-            n += 1;
-            j += 1;
-        } else {
-            literals[n] = x as u16;
-            n += 1;
-            i += 1;
-            j += 1;
-        }
-    }
+    if x <= y { 1 } else { 0 }
 }
 
-// The clauses of the eights a and b of the store, from 0, resolved on variable v: the first without v joined with the second without ¬v,
-// or 10, or 11.
-pub fn resolve(store: &[u16], a: usize, b: usize, v: u16) -> Resolved
-    requires { ⌜ (clauseWidth * a + clauseWidth ≤ length (now store)) × (clauseWidth * b + clauseWidth ≤ length (now store))
-        × Rising (clauseAt (now store) a) × Rising (clauseAt (now store) b) ⌝ }
-    ensures { λ r. ⌜ Answers r (resolveOf v (clauseAt (now (store .entry)) a) (clauseAt (now (store .entry)) b)) ⌝ }
+fn least(x: u16, y: u16) -> u16
+    ensures { λ r. ⌜ (x ≤ y → r ≡ x) × (y < x → r ≡ y) ⌝ }
 {
-    let first = Clause::WIDTH * a;
-    let second = Clause::WIDTH * b;
-    merge(
-        &store[first..first + Clause::WIDTH],
-        &store[second..second + Clause::WIDTH],
-        v,
-    )
+    if x <= y { x } else { y }
+}
+
+// The first number if it is below l, else the second.
+fn below(x: u16, l: u16, z: u16) -> u16
+    ensures { λ r. ⌜ (x < l → r ≡ x) × (l ≤ x → r ≡ z) ⌝ }
+{
+    if x < l { x } else { z }
+}
+
+// The literal at place i of a stored clause, and past its end the bound.
+fn head(s: &[u16], i: usize) -> u16
+    requires { ⌜ length (now s) ≡ clauseWidth ⌝ }
+    ensures { λ r. ⌜ ((c : model.Clause) → Stores (now (s .entry)) c → r ≡ headOf (drop i c)) ⌝ }
+{
+    if i < Clause::WIDTH {
+        let x = s[i];
+        if x == 0 {
+            return Literal::BOUND;
+        }
+        return x - 1;
+    }
+    Literal::BOUND
+}
+
+// Whether a stored clause holds a literal. All places are looked at, so that no branch depends on where it stands.
+fn has(s: &[u16], l: u16) -> bool
+    requires { ⌜ (length (now s) ≡ clauseWidth) × (l < literalBound) ⌝ }
+    ensures { λ r. ⌜ ((c : model.Clause) → Stores (now (s .entry)) c → r ≡ model.holds l c) ⌝ }
+{
+    let mut met = false;
+    let mut i: usize = 0;
+    while i < Clause::WIDTH {
+        let x = head(s, i);
+        i += 1;
+        if x == l {
+            met = true;
+        }
+    }
+    met
+}
+
+// A copy of a stored clause without a literal that it holds: each place below that literal stays, and each other takes the next. The copy is no
+// `Clause`, since its length is not counted: to count it costs a third of the step.
+fn without(s: &[u16], l: u16) -> [u16; Clause::WIDTH]
+    requires { ⌜ length (now s) ≡ clauseWidth ⌝ }
+    ensures { λ r. ⌜ ((c : model.Clause) → Stores (now (s .entry)) c → model.holds l c ≡ true → Copies r (model.without l c)) ⌝ }
+{
+    let mut literals = [Literal::BOUND; Clause::WIDTH];
+    let mut i: usize = 0;
+    while i < Clause::WIDTH {
+        literals[i] = below(head(s, i), l, head(s, i + 1));
+        i += 1;
+    }
+    literals
+}
+
+// The literal at place i of a copy, and past its end the bound.
+fn at(a: &[u16; Clause::WIDTH], i: usize) -> u16
+    ensures { λ r. ⌜ ((c : model.Clause) → Copies (now (a .entry)) c → r ≡ headOf (drop i c)) ⌝ }
+{
+    if i < Clause::WIDTH {
+        return a[i];
+    }
+    Literal::BOUND
+}
+
+// Whether a join ends at place k. This is asked in the first half: many short clauses in a row end alike, and long ones each elsewhere.
+fn ends(k: usize, lowest: u16) -> bool
+    ensures { λ r. ⌜ (r ≡ true → lowest ≡ literalBound) ⌝ }
+{
+    if k <= Clause::WIDTH / 2 {
+        return lowest == Literal::BOUND;
+    }
+    false
+}
+
+// The join of two copies. A turn takes the lowest literal from each copy that has it; where both are at their ends, the bound is put again.
+fn join(a: &[u16; Clause::WIDTH], b: &[u16; Clause::WIDTH]) -> Resolved
+    ensures { λ r. ⌜ ((c d : model.Clause) → Copies (now (a .entry)) c → Copies (now (b .entry)) d → Answers r (fitted (model.join c d))) ⌝ }
+{
+    let mut literals = [Literal::BOUND; Clause::WIDTH];
+    let mut len: usize = 0;
+    let mut i: usize = 0;
+    let mut j: usize = 0;
+    let mut k: usize = 0;
+    while k < Clause::WIDTH {
+        let x = at(a, i);
+        let y = at(b, j);
+        let lowest = least(x, y);
+        if ends(k, lowest) {
+            return joined(literals, len);
+        }
+        literals[k] = lowest;
+        len += at_most(lowest, Literal::BOUND - 1);
+        i += at_most(x, y);
+        j += at_most(y, x);
+        k += 1;
+    }
+    if least(at(a, i), at(b, j)) == Literal::BOUND {
+        return joined(literals, len);
+    }
+    refusal(Outcome::TooLong)
+}
+
+// Two stored clauses resolved on variable v: the first without v joined with the second without ¬v, or 10, or 11. No clause holds the
+// complement of a variable whose complement is the bound or above it, and no pivot of any other wraps.
+pub fn resolve(first: &[u16], second: &[u16], v: u16) -> Resolved
+    requires { ⌜ (length (now first) ≡ clauseWidth) × (length (now second) ≡ clauseWidth) ⌝ }
+    ensures { λ r. ⌜ ((c d : model.Clause) → Stores (now (first .entry)) c → Stores (now (second .entry)) d → Answers r (resolveOf v c d)) ⌝ }
+{
+    if Literal::BOUND / 2 <= v {
+        return refusal(Outcome::Missing);
+    }
+    let p = Literal::positive(v);
+    let q = Literal::negative(v);
+    if !has(first, p.code) {
+        return refusal(Outcome::Missing);
+    }
+    if !has(second, q.code) {
+        return refusal(Outcome::Missing);
+    }
+    let a = without(first, p.code);
+    let b = without(second, q.code);
+    join(&a, &b)
 }

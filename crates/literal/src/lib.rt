@@ -1,7 +1,6 @@
 // Literals by value (document 01, 'Lines on the wire' and 'The miter's clauses'): a net or a variable, or its complement.
 ghost use mathlib.Core.Path.{_≡_};
 ghost use Prim.Native.Nat.{_%_, _≤_};
-ghost use Rattle.model.specs.Limits.{highestVariable};
 ghost use Rattle.model.specs.Nets.{netOf};
 ghost use Rattle.model.specs.Clauses as model;
 
@@ -29,14 +28,14 @@ impl Literal {
     }
 
     pub fn positive(v: u16) -> Literal
-        requires { ⌜ v ≤ highestVariable ⌝ }
+        requires { ⌜ v ≤ 32767 ⌝ }
         ensures { λ r. ⌜ r .code ≡ model.positive v ⌝ }
     {
         Literal { code: 2 * v }
     }
 
     pub fn negative(v: u16) -> Literal
-        requires { ⌜ v ≤ highestVariable ⌝ }
+        requires { ⌜ v ≤ 32767 ⌝ }
         ensures { λ r. ⌜ r .code ≡ model.negative v ⌝ }
     {
         Literal { code: 2 * v + 1 }

@@ -17,7 +17,8 @@ use Rattle.model.specs.Miter.{firstGate, firstClause, lastClause, miterGates, m
 use Rattle.netlist.specs.declared.Pair.{Pair}
 use Rattle.netlist.specs.Again.{noGate}
 use Rattle.miter.specs.declared.variables.Definition.{Definition}
-use Rattle.steps.specs.Progress.{clausesOf, Proper, Held, Tracks}
+use Rattle.clause.specs.Sets.{Proper}
+use Rattle.steps.specs.Progress.{clausesOf, Held, Tracks}
 use Rattle.miter.specs.Miters.{Lists, Defines, gateCount, gatesUpTo, beginOf}
 use Rattle.steps.proofs.HeldLaws.{held-more}
 use Rattle.miter.proofs.MiterLaws.{gate-total}

@@ -1,5 +1,5 @@
--- A store that holds clauses: clause k is in its eight, and a clause saved behind the last is held too.
-use Prim.Native.Nat.{ℕ, zero, suc, _+_, _*_, _≤_, _<_}
+-- A store that holds clauses: clause k is in its numbers, and a clause saved behind the last is held too.
+use Prim.Native.Nat.{ℕ, zero, suc, _+_, _-_, _*_, _≤_, _<_}
 use mathlib.Core.Path.{_≡_, refl, sym, ap, _∙_}
 use mathlib.Core.List.{List, [], _∷_, _++_, append-assoc, append-nil}
 use native.Mathlib.Omega.{arith}
@@ -11,13 +11,12 @@ use Rattle.model.specs.Limits.{clauseWidth}
 use Rattle.model.specs.Clauses.{Clause, neg, insert, join, clauseOf, andClauses, xorClauses}
 use Rattle.laws.specs.Bools.{by-cond}
 use Rattle.model.specs.Checker.{stored, storedAll}
-use Rattle.clause.specs.Sets.{Rising, clauseIn, clauseAt}
-use Rattle.saved.specs.Copies.{Saved}
-use Rattle.clause.proofs.StoreLaws.{stored-length, in-stored}
+use Rattle.clause.specs.Sets.{Proper, Stores}
+use Rattle.clause.proofs.StoreLaws.{stored-length}
 use Rattle.clause.proofs.SetLaws.{Small, rising-clause}
 use Rattle.frame.specs.declared.Op.{Op}
 use Rattle.frame.specs.declared.Op.the-variants.{And, Xor}
-use Rattle.steps.specs.Progress.{clausesOf, Proper, AllProper, Held}
+use Rattle.steps.specs.Progress.{clausesOf, AllProper, Held}
 
 pub all-width : (cs : List Clause) → AllProper cs → length (storedAll cs) ≡ clauseWidth * length cs
 unfolding storedAll
@@ -40,39 +39,33 @@ proper-at (c ∷ cs) (suc k) p h = proper-at cs k (p .1) (omega arith)
 
 -- ---- a clause of the store
 
+-- the bounds of clause k, from 0, leave a clause's numbers between them
+pub bounds : (k : ℕ) → clauseWidth * k + clauseWidth - clauseWidth * k ≡ clauseWidth
+bounds k = omega arith
+
 -- the k-th of clauses stored one behind the other
-eight-at : (cs : List Clause) → AllProper cs → (k : ℕ) → k < length cs → (rest : List ℕ) → take clauseWidth (drop (clauseWidth * k) (storedAll cs ++ rest)) ≡ stored (getD cs k [])
+stored-at : (cs : List Clause) → AllProper cs → (k : ℕ) → k < length cs → (rest : List ℕ) → take clauseWidth (drop (clauseWidth * k) (storedAll cs ++ rest)) ≡ stored (getD cs k [])
 unfolding storedAll
-eight-at [] p k h rest = absurd (omega arith)
-eight-at (c ∷ cs) p zero h rest =
+stored-at [] p k h rest = absurd (omega arith)
+stored-at (c ∷ cs) p zero h rest =
     let z : clauseWidth * 0 ≡ 0 = omega arith in
     rw (z, append-assoc (stored c) (storedAll cs) rest) (take-at (stored c) (storedAll cs ++ rest) clauseWidth (stored-length c (p .0 .width)))
-eight-at (c ∷ cs) p (suc k) h rest =
+stored-at (c ∷ cs) p (suc k) h rest =
     let e : clauseWidth * suc k ≡ length (stored c) + clauseWidth * k = omega (arith, stored-length c (p .0 .width)) in
-    rw (e, append-assoc (stored c) (storedAll cs) rest, drop-append-add (stored c) (storedAll cs ++ rest) (clauseWidth * k)) (eight-at cs (p .1) k (omega arith) rest)
+    rw (e, append-assoc (stored c) (storedAll cs) rest, drop-append-add (stored c) (storedAll cs ++ rest) (clauseWidth * k)) (stored-at cs (p .1) k (omega arith) rest)
 
 -- the store is its clauses and what is behind them
-pub held-split : (store : List ℕ) (cs : List Clause) → Held store cs → store ≡ storedAll cs ++ drop (clauseWidth * length cs) store
+held-split : (store : List ℕ) (cs : List Clause) → Held store cs → store ≡ storedAll cs ++ drop (clauseWidth * length cs) store
 held-split store cs h = sym (take-append-drop (clauseWidth * length cs) store) ∙ ap (λ (l : List ℕ). l ++ drop (clauseWidth * length cs) store) (h .same)
 
--- eight k is as clause k is stored
-eight-held : (store : List ℕ) (cs : List Clause) → Held store cs → (k : ℕ) → k < length cs → take clauseWidth (drop (clauseWidth * k) store) ≡ stored (getD cs k [])
-eight-held store cs h k l =
-    ap (λ (t : List ℕ). take clauseWidth (drop (clauseWidth * k) t)) (held-split store cs h)
-    ∙ eight-at cs (h .proper) k l (drop (clauseWidth * length cs) store)
-
-pub clause-held : (store : List ℕ) (cs : List Clause) → Held store cs → (k : ℕ) → k < length cs → clauseAt store k ≡ getD cs k []
-clause-held store cs h k l = ap clauseIn (eight-held store cs h k l) ∙ in-stored (getD cs k [])
-
-pub held-rising : (store : List ℕ) (cs : List Clause) → Held store cs → (k : ℕ) → k < length cs → Rising (clauseAt store k)
-held-rising store cs h k l = rw (clause-held store cs h k l) (proper-at cs k (h .proper) l .rising)
-
-pub held-saved : (store : List ℕ) (cs : List Clause) → Held store cs → (k : ℕ) → k < length cs → Saved (take clauseWidth (drop (clauseWidth * k) store))
-held-saved store cs h k l =
-    let e = eight-held store cs h k l in
+-- the numbers of clause k, from 0, are as it is stored
+pub held-stored : (store : List ℕ) (cs : List Clause) → Held store cs → (k : ℕ) → k < length cs → Stores (take clauseWidth (drop (clauseWidth * k) store)) (getD cs k [])
+held-stored store cs h k l =
     record {
-      width = ap length e ∙ stored-length (getD cs k []) (proper-at cs k (h .proper) l .width);
-      same = e ∙ sym (ap stored (clause-held store cs h k l));
+      proper = proper-at cs k (h .proper) l;
+      same =
+          ap (λ (t : List ℕ). take clauseWidth (drop (clauseWidth * k) t)) (held-split store cs h)
+          ∙ stored-at cs (h .proper) k l (drop (clauseWidth * length cs) store);
     }
 
 -- ---- a clause more
@@ -110,7 +103,7 @@ unfolding join
 join-length c [] = omega arith
 join-length c (l ∷ ls) = omega (arith, join-length (insert l c) ls, insert-length l c)
 
--- a clause of at most eight literals that the store can hold is proper
+-- a clause of few enough literals that the store can hold is proper
 proper-clause : (ls : List ℕ) → Small ls → length ls ≤ clauseWidth → Proper (clauseOf ls)
 proper-clause ls s h = record { rising = rising-clause ls s; width = omega (arith, join-length [] ls) }
 

@@ -9,7 +9,7 @@ use lib.Dec.{eqb, leb, ltb}
 use lib.Seq.{sets}
 use borrow.Author.Tests.{ltb-true, leb-true, lt-ltb, le-ltb, le-leb, lt-leb, ne-eqb}
 use Rattle.model.specs.Limits.{highestVariable, clauseWidth}
-use Rattle.model.specs.Answers.{guard, bind}
+use Rattle.model.specs.Answers.{Answer, guard, bind}
 use Rattle.model.specs.Answers.Answer.{ok, refused}
 use Rattle.model.specs.Nets.{isBelow}
 use Rattle.model.specs.Clauses.{Clause, isEmpty, positive, resolvent, andClauses, xorClauses, opClauses, gateClauses}
@@ -21,14 +21,14 @@ use Rattle.clause.specs.declared.resolution.Resolved.{Resolved}
 use Rattle.laws.specs.Answers.{ok-injective, guard-ok}
 use Rattle.clause.specs.declared.resolution.Outcome.{Outcome}
 use Rattle.clause.specs.declared.resolution.Outcome.the-variants.{Joined, Missing, TooLong}
-use Rattle.clause.specs.Sets.{Rising, literalsOf, clauseAt, resolveOf, outcomeOf, answerOf, Answers}
+use Rattle.clause.specs.Sets.{Rising, Proper, literalsOf, fitted, resolveOf, outcomeOf, Answers}
 use Rattle.clause.proofs.SetLaws.{rising-resolvent}
 use Rattle.netlist.specs.Again.{opOf}
 use Rattle.frame.specs.declared.Op.{Op}
 use Rattle.frame.specs.declared.Op.the-variants.{And, Xor}
 use Rattle.steps.specs.declared.Progress.{Progress}
-use Rattle.steps.specs.Progress.{clausesOf, extension, Proper, Held, Tracks}
-use Rattle.steps.proofs.HeldLaws.{clause-held, held-more}
+use Rattle.steps.specs.Progress.{clausesOf, extension, Held, Tracks}
+use Rattle.steps.proofs.HeldLaws.{proper-at, held-more}
 
 -- ---- extend
 
@@ -145,10 +145,14 @@ joined-tracks {store} {p} {s} r len at t h e is room =
 pub number : (n k : ℕ) → ltb 0 k && leb k n ≡ true → (1 ≤ k) × (k ≤ n)
 number n k h = let t = both (ltb 0 k) (leb k n) h in (ltb-true 0 k (t .0), leb-true k n (t .1))
 
+-- a clause that the store has rises
+pub rising-at : {store : List ℕ} {p : Progress} {s : State} (k : ℕ) → Tracks store p s → ltb 0 k && leb k (p .clauses) ≡ true → Rising (clause (s .clauses) k)
+rising-at {store} {p} {s} k t h = proper-at (s .clauses) (k - 1) (t .held .proper) (omega (arith, number (p .clauses) k h, t .clauses)) .rising
+
 -- a resolvent that was built rises
 pub resolvent-rising : (v : ℕ) (first second : Clause) (r : Resolved) → Rising first → Rising second → Answers r (resolveOf v first second)
     → r .outcome ≡ Joined → Rising (literalsOf (r .clause))
-unfolding resolveOf
+unfolding resolveOf fitted
 resolvent-rising v first second r hf hs h e =
     let m = ap (λ (o : Outcome). outcomeOf o (literalsOf (r .clause)) 0) e in
     let g10 = guard-ok _ _ _ _ (sym (h .same 0) ∙ m) in
@@ -168,7 +172,7 @@ module _ (room line : ℕ) (s : State) (a b v : ℕ) where
   by-resolve : isClause (s .clauses) a ≡ true → isClause (s .clauses) b ≡ true
       → step room line s (resolve a b v)
       ≡ bind (resolveOf v (clause (s .clauses) a) (clause (s .clauses) b) line) (λ r. added room line s (r ∷ []) (s .next) (isEmpty r))
-  unfolding step guard resolved resolveOf
+  unfolding step guard resolved resolveOf fitted
   by-resolve ha hb = rw (ha, hb) (cases (canResolve v (clause (s .clauses) a) (clause (s .clauses) b)) (leb (length r) clauseWidth))
     where
       r : Clause
@@ -181,20 +185,15 @@ module _ (room line : ℕ) (s : State) (a b v : ℕ) where
       cases true false = refl
       cases false y = refl
 
-  module _ {store : List ℕ} {p : Progress} (t : Tracks store p s) (ha : isClause (s .clauses) a ≡ true) (hb : isClause (s .clauses) b ≡ true) (r : Resolved)
-      (h : Answers r (resolveOf v (clauseAt store (a - 1)) (clauseAt store (b - 1)))) where
-    -- what the code's step on two clauses of the store tells of the definition's
-    resolves : step room line s (resolve a b v) ≡ bind (answerOf r line) (λ c. added room line s (c ∷ []) (s .next) (isEmpty c))
-    resolves =
-        let n : ℕ = length (s .clauses) in
-        let ca : clauseAt store (a - 1) ≡ clause (s .clauses) a = clause-held store (s .clauses) (t .held) (a - 1) (omega (arith, number n a ha)) in
-        let cb : clauseAt store (b - 1) ≡ clause (s .clauses) b = clause-held store (s .clauses) (t .held) (b - 1) (omega (arith, number n b hb)) in
-        rw (h .same line, ca, cb) (by-resolve ha hb)
-
+  -- what the code's step on the two clauses tells of the definition's
+  module _ (ha : isClause (s .clauses) a ≡ true) (hb : isClause (s .clauses) b ≡ true) (r : Resolved)
+      (h : Answers r (resolveOf v (clause (s .clauses) a) (clause (s .clauses) b))) where
     by-outcome : (o : Outcome) → r .outcome ≡ o
         → step room line s (resolve a b v) ≡ bind (outcomeOf o (literalsOf (r .clause)) line) (λ c. added room line s (c ∷ []) (s .next) (isEmpty c))
     by-outcome o e =
-        resolves ∙ ap (λ (x : Outcome). bind (outcomeOf x (literalsOf (r .clause)) line) (λ c. added room line s (c ∷ []) (s .next) (isEmpty c))) e
+        by-resolve ha hb
+        ∙ ap (λ (x : Answer Clause). bind x (λ c. added room line s (c ∷ []) (s .next) (isEmpty c)))
+        (sym (h .same line) ∙ ap (λ (x : Outcome). outcomeOf x (literalsOf (r .clause)) line) e)
 
     pub pivot-missing : r .outcome ≡ Missing → step room line s (resolve a b v) ≡ refused 10 line
     pivot-missing e = by-outcome Missing e

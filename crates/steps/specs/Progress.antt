@@ -14,7 +14,7 @@ use Rattle.netlist.specs.Again.{opOf}
 use Rattle.frame.specs.declared.Op.{Op}
 use Rattle.frame.specs.declared.Op.the-variants.{And, Xor}
 use Rattle.literal.specs.declared.Literal.{Literal}
-use Rattle.clause.specs.Sets.{Rising}
+use Rattle.clause.specs.Sets.{Proper}
 use Rattle.steps.specs.declared.Progress.{Progress}
 use Rattle.steps.specs.declared.Stepped.{Stepped}
 use Rattle.steps.specs.declared.Stepped.the-variants.{Done, Refused}
@@ -30,11 +30,6 @@ abbrev pub extension : Op → ℕ → ℕ → Step
 extension op x y = extend (record { op = opOf op; x = x; y = y })
 
 -- ---- the store
-
--- a clause that the store can hold
-pub record Proper (c : Clause) : Type 0 where
-  pub rising : Rising c
-  pub width : length c ≤ clauseWidth
 
 abbrev pub AllProper : List Clause → Type 0
 AllProper [] = Unit {0}

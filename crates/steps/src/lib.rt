@@ -1,18 +1,19 @@
 // One step of a proof (document 01, 'Steps') over the clause store, and the clauses of a gate put into it. The store holds the clauses from its
-// start, eight numbers each; the rest of it is of no account here. No work on a step depends on the size of the store.
+// start, Clause::WIDTH numbers each; the rest of it is of no account here. No work on a step depends on the size of the store.
 use clause::Clause;
 use clause::gates::AND_CLAUSES;
 use clause::gates::XOR_CLAUSES;
 use clause::gates::and_clause;
 use clause::gates::xor_clause;
 use clause::resolution::Outcome;
+use clause::resolution::Resolved;
+use clause::resolution::resolve;
 use clause::store::save;
 use frame::Op;
 use literal::Literal;
 use netlist::Refusal;
-use saved::resolve_saved;
 ghost use mathlib.Core.Path.{_≡_};
-ghost use Prim.Native.Nat.{ℕ, _+_, _<_, _≤_};
+ghost use Prim.Native.Nat.{ℕ, _+_, _*_, _<_, _≤_};
 ghost use mathlib.Core.List.{List, [], _∷_, _++_};
 ghost use mathlib.Core.Bool.{_&&_};
 ghost use lib.Dec.{leb, ltb};
@@ -21,7 +22,7 @@ ghost use Rattle.model.specs.Clauses as model;
 ghost use Rattle.model.specs.Steps as steps;
 ghost use Rattle.model.specs.Steps.{State};
 ghost use Rattle.model.specs.Limits.{clauseWidth};
-ghost use Rattle.clause.specs.Sets.{Holds, Rising, literalsOf};
+ghost use Rattle.clause.specs.Sets.{Holds, Rising, literalsOf, resolveOf, Answers};
 ghost use Rattle.steps.specs.Progress.{clausesOf, extension, Held, Room, Tracks, Within, Says};
 
 // How far a proof is: clauses so far, the next unused variable, steps done, and whether the last was a resolve with the empty clause.
@@ -105,10 +106,12 @@ pub fn extend_step(
 {
     let next = p.next;
     let clauses = p.clauses;
-    if next <= x / 2 {
+    let left = Literal::of(x);
+    let right = Literal::of(y);
+    if next <= left.variable() {
         return Stepped::Refused(Refusal { number: 12, line });
     }
-    if next <= y / 2 {
+    if next <= right.variable() {
         return Stepped::Refused(Refusal { number: 12, line });
     }
     if Literal::HIGHEST_VARIABLE < next {
@@ -119,14 +122,7 @@ pub fn extend_step(
         return Stepped::Refused(Refusal { number: 14, line });
     }
     let n = Literal::positive(next);
-    let count = push_gate(
-        store,
-        clauses,
-        op,
-        n,
-        Literal { code: x },
-        Literal { code: y },
-    );
+    let count = push_gate(store, clauses, op, n, left, right);
     Stepped::Done(Progress {
         clauses: count,
         next: next + 1,
@@ -143,7 +139,7 @@ fn push_resolvent(
     line: usize,
     resolvent: Clause,
 ) -> Stepped
-    requires { ⌜ Within (now store) p room × (resolvent .len ≤ clauseWidth) × (resolvent .len ≡ length (literalsOf resolvent)) × Rising (literalsOf resolvent) ⌝ }
+    requires { ⌜ Within (now store) p room × Holds resolvent (literalsOf resolvent) × Rising (literalsOf resolvent) ⌝ }
     ensures { λ r. ⌜ ((s : State) → Tracks (now (store .entry)) p s → Says room (steps.added room line s (literalsOf resolvent ∷ []) (s .next) (model.isEmpty (literalsOf resolvent))) (now (store .exit)) r) ⌝ }
 {
     let clauses = p.clauses;
@@ -157,6 +153,20 @@ fn push_resolvent(
         steps: p.steps + 1,
         empty: resolvent.len == 0,
     })
+}
+
+// Two clauses of the store, whose numbers are from 0, resolved on v.
+fn resolve_at(store: &[u16], a: usize, b: usize, v: u16) -> Resolved
+    requires { ⌜ (clauseWidth * a + clauseWidth ≤ length (now store)) × (clauseWidth * b + clauseWidth ≤ length (now store)) ⌝ }
+    ensures { λ r. ⌜ ((cs : List model.Clause) → Held (now (store .entry)) cs → a < length cs → b < length cs → Answers r (resolveOf v (getD cs a []) (getD cs b []))) ⌝ }
+{
+    let first = Clause::WIDTH * a;
+    let second = Clause::WIDTH * b;
+    resolve(
+        &store[first..first + Clause::WIDTH],
+        &store[second..second + Clause::WIDTH],
+        v,
+    )
 }
 
 // Resolve on v: the first clause holds v, the second ¬v. The numbers of clauses are from 1.
@@ -179,7 +189,7 @@ pub fn resolve_step(
     if !is_clause(clauses, b) {
         return Stepped::Refused(Refusal { number: 9, line });
     }
-    let resolved = resolve_saved(store, a - 1, b - 1, v);
+    let resolved = resolve_at(store, a - 1, b - 1, v);
     let outcome = resolved.outcome;
     match outcome {
         Outcome::Missing => Stepped::Refused(Refusal { number: 10, line }),

@@ -1,30 +1,46 @@
 -- Each return is the definition's own case, in the same order (`StepLaws`).
 use mathlib.Core.Path.{_≡_}
 use native.Mathlib.Omega.{arith}
-use borrow.Author.Needs.{needs}
 use denote.Ref.{now}
 use lib.ListN.{length}
 use Rattle.model.specs.Clauses.{positive}
 use Rattle.steps.proofs.StepLaws.{few, first-unused, second-unused, no-variable, no-space, extended, extends, extended-tracks}
+use borrow.Author.Needs.{needs}
 use Rattle.steps.proofs.extend_step.Statement.{statement}
 use Rattle.steps.proofs.extend_step.Tie as tie
 use Rattle.steps.proofs.extend_step.Reads as reads
 use Rattle.steps.proofs.extend_step.Lts as lts
+use Rattle.literal.proofs.Literal.of.Reads as of-reads
+use Rattle.literal.proofs.Literal.positive.Reads as positive-reads
+use Rattle.literal.proofs.Literal.variable.Reads as variable-reads
 use Rattle.steps.proofs.clause_count.Reads as clause-count-reads
 use Rattle.steps.proofs.push_gate.Reads as push-gate-reads
-use Rattle.literal.proofs.Literal.positive.Reads as positive-reads
+
+of-requires : tie.Need-of-requires
+of-requires c κs = search needs
+
+of-requires-2 : tie.Need-of-requires-2
+of-requires-2 c κs = search needs
+
+variable-requires : tie.Need-variable-requires
+variable-requires c κs = search needs
 
 returns : tie.Need-returns
-returns c s t = first-unused (c .before .before .args .room) (c .before .before .args .line) s (c .before .before .args .op) (c .before .before .args .x) (c .before .before .args .y) (omega (arith, t .next))
+returns c s t =
+    let a = c .before .before .before .before .before .args in
+    first-unused (a .room) (a .line) s (a .op) (a .x) (a .y) (omega (arith, t .next))
+
+variable-requires-2 : tie.Need-variable-requires-2
+variable-requires-2 c κs = search needs
 
 returns-2 : tie.Need-returns-2
 returns-2 c s t =
-    let a = c .before .before .before .args in
+    let a = c .before .before .before .before .before .before .before .args in
     second-unused (a .room) (a .line) s (a .op) (a .x) (a .y) (omega (arith, t .next))
 
 returns-3 : tie.Need-returns-3
 returns-3 c s t =
-    let a = c .before .before .before .before .args in
+    let a = c .before .before .before .before .before .before .before .before .args in
     no-variable (a .room) (a .line) s (a .op) (a .x) (a .y) (omega (arith, t .next)) (omega (arith, t .next)) (omega (arith, t .next))
 
 clause-count-requires : tie.Need-clause-count-requires
@@ -32,13 +48,13 @@ clause-count-requires c κs = search needs
 
 add-if4 : tie.Need-add-if4
 add-if4 c =
-    let a = c .before .before .before .before .before .args in
-    let w = c .before .before .before .before .before .pre in
+    let a = c .before .before .before .before .before .before .before .before .before .args in
+    let w = c .before .before .before .before .before .before .before .before .before .pre in
     omega (arith, c .clause-count .ensures 0 (a .x) (a .y), few (a .op) 0 (a .x) (a .y) .1, w .clauses, w .most)
 
 returns-4 : tie.Need-returns-4
 returns-4 c s t =
-    let a = c .before .before .before .before .before .before .args in
+    let a = c .before .before .before .before .before .before .before .before .before .before .args in
     no-space (a .room) (a .line) s (a .op) (a .x) (a .y) (omega (arith, t .next)) (omega (arith, t .next)) (omega (arith, t .next))
     (omega (arith, t .clauses, c .before .clause-count .ensures (positive (s .next)) (a .x) (a .y)))
 
@@ -47,36 +63,37 @@ positive-requires c κs = search needs
 
 push-gate-requires : tie.Need-push-gate-requires
 push-gate-requires c κs =
-    let a = c .before .before .before .before .before .before .before .before .args in
-    let w = c .before .before .before .before .before .before .before .before .pre in
+    let w = c .before .before .before .before .before .before .before .before .before .before .before .before .pre in
+    let left = c .before .before .before .before .before .before .before .before .before .before .of in
+    let right = c .before .before .before .before .before .before .before .before .before .of2 in
     record {
-      numbers-for-all = omega (arith, w .numbers-for-all, c .before .before .before .clause-count .ensures (c .before .positive .result .code) (a .x) (a .y));
+      numbers-for-all = omega (arith, w .numbers-for-all, c .before .before .before .clause-count .ensures (c .before .positive .result .code) (left .result .code) (right .result .code));
       few = omega (arith, w .most, w .clauses);
       low-n = omega (arith, c .before .positive .ensures);
-      low-x = omega (arith);
-      low-y = omega (arith);
+      low-x = omega (arith, left .ensures);
+      low-y = omega (arith, right .ensures);
     }
 
-add-t13 : tie.Need-add-t13
-add-t13 c = search needs
+add-t15 : tie.Need-add-t15
+add-t15 c = search needs
 
-add-t18 : tie.Need-add-t18
-add-t18 c = search needs
+add-t20 : tie.Need-add-t20
+add-t20 c = search needs
 
 same-length : tie.Need-same-length
 same-length c = search needs
 
 returns-5 : tie.Need-returns-5
 returns-5 c s t =
-    let a = c .before .before .before .before .before .before .before .before .before .before .before .before .args in
-    let w = c .before .before .before .before .before .before .before .before .before .before .before .before .pre in
+    let a = c .before .before .before .before .before .before .before .before .before .before .before .before .before .before .before .before .args in
+    let w = c .before .before .before .before .before .before .before .before .before .before .before .before .before .before .before .before .pre in
     let g = c .before .before .before .push-gate in
     let n = c .before .before .before .before .before .positive in
-    let e = g .ensures .0 in
+    let e = rw (c .before .before .before .before .before .before .before .before .before .before .before .before .before .before .of .ensures, c .before .before .before .before .before .before .before .before .before .before .before .before .before .of2 .ensures) at (g .ensures) in
     let k = c .before .before .before .before .before .before .before .clause-count .ensures (n .result .code) (a .x) (a .y) in
     let k′ = c .before .before .before .before .before .before .before .clause-count .ensures (positive (s .next)) (a .x) (a .y) in
     let l : length (g .last .0) ≡ length (now (a .store)) = search needs in
-    let q = extended-tracks (a .op) (a .x) (a .y) (n .result .code) (g .result) t (n .ensures) e (g .ensures .1) in (
+    let q = extended-tracks (a .op) (a .x) (a .y) (n .result .code) (g .result) t (n .ensures) (e .0) (e .1) in (
       extended (a .op) (a .x) (a .y) s,
       extends (a .room) (a .line) s (a .op) (a .x) (a .y) (omega (arith, t .next)) (omega (arith, t .next)) (omega (arith, t .next)) (omega (arith, t .clauses)),
       q,
@@ -95,7 +112,11 @@ pub extend-step-spec : {M : Type 1} → statement M
 extend-step-spec =
     tie.close
     (tie.spec
+    of-requires
+    of-requires-2
+    variable-requires
     returns
+    variable-requires-2
     returns-2
     returns-3
     clause-count-requires
@@ -103,7 +124,7 @@ extend-step-spec =
     returns-4
     positive-requires
     push-gate-requires
-    add-t13
-    add-t18
+    add-t15
+    add-t20
     same-length
     returns-5)

@@ -9,6 +9,7 @@ use lib.ListN.{length, take}
 use lib.Seq.{length-sets, take-all}
 use Rattle.model.specs.Clauses.{Clause}
 use Rattle.steps.specs.Progress.{clausesOf, Held}
+use Rattle.clause.proofs.PlaceLaws.{holds-own}
 use Rattle.steps.proofs.HeldLaws.{proper-at, gate-proper, gate-saved}
 use Rattle.steps.proofs.push_gate.Statement.{statement}
 use Rattle.steps.proofs.push_gate.Tie as tie
@@ -53,7 +54,7 @@ save-requires c κs =
     let g = c .gate-clause .ensures in
     let l = c .before .before .before .loop in
     let q = proper-at (clausesOf (a .op) (a .n .code) (a .x .code) (a .y .code)) (l .j) (gate-proper (a .op) (a .n .code) (a .x .code) (a .y .code) (r .low-n) (r .low-x) (r .low-y)) (omega arith) in
-    (omega (arith, r .numbers-for-all, l .inv .1), g .room, rw (g .same) (q .rising))
+    (omega (arith, r .numbers-for-all, l .inv .1), holds-own g, rw (g .same) (q .rising))
 
 add-j : tie.Need-add-j Inv-loop μ-loop
 add-j c = search needs

@@ -4,8 +4,9 @@ use mathlib.Core.Path.{refl}
 use native.Mathlib.Omega.{arith}
 use lib.Seq.{length-sets}
 use lib.Dec.{eqb}
-use Rattle.clause.specs.Sets.{literalsOf}
-use Rattle.steps.specs.Progress.{Proper, Tracks}
+use Rattle.model.specs.Limits.{clauseWidth}
+use Rattle.clause.specs.Sets.{Proper, literalsOf}
+use Rattle.steps.specs.Progress.{Tracks}
 use Rattle.steps.proofs.StepLaws.{full, joined, joins, joined-tracks}
 use borrow.Author.Needs.{needs}
 use Rattle.steps.proofs.push_resolvent.Statement.{statement}
@@ -22,7 +23,7 @@ returns c s t =
 save-requires : tie.Need-save-requires
 save-requires c κs =
     let w = c .before .before .before .pre in
-    (omega (arith, w .0 .numbers-for-all, w .0 .clauses), w .1, w .3)
+    (omega (arith, w .0 .numbers-for-all, w .0 .clauses), w .1, w .2)
 
 add-t12 : tie.Need-add-t12
 add-t12 c = search needs
@@ -39,8 +40,8 @@ returns-2 c s t =
     let w = c .before .before .before .before .before .before .before .before .pre in
     let r = literalsOf (a .resolvent) in
     let g = c .before .before .before .before .save in
-    let h : Proper r = record { rising = w .3; width = omega (arith, w .1, w .2) } in
-    let q = joined-tracks r (a .resolvent .len) (8 * a .p .clauses) t h (w .2) refl (omega (arith, w .0 .numbers-for-all, w .0 .clauses)) in
+    let h : Proper r = record { rising = w .2; width = omega (arith, w .1 .size, w .1 .room) } in
+    let q = joined-tracks r (a .resolvent .len) (clauseWidth * a .p .clauses) t h (w .1 .size) refl (omega (arith, w .0 .numbers-for-all, w .0 .clauses)) in
     let q′ : Tracks (g .last .0) (record { clauses = a .p .clauses + 1; next = a .p .next; steps = a .p .steps + 1; empty = eqb (a .resolvent .len) 0 }) (joined r s) =
     rw (g .ensures) q in (
       joined r s,

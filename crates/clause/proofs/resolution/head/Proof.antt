@@ -1,8 +1,12 @@
--- The number at i is 0 behind the last literal, and else a literal plus one; behind the eighth nothing is left.
+-- The number at i is the literal there plus one in 16 bits (`number-at`); past the numbers no literal is left.
 use native.Mathlib.Omega.{arith}
+use mathlib.Core.Path.{_≡_, sym, ap}
 use denote.Ref.{now}
-use lib.ListN.{drop-of-length-le}
-use Rattle.clause.proofs.StoreLaws.{in-stop, in-more}
+use Prim.Native.Nat.{_+_, _%_}
+use lib.ListN.{getD, drop, drop-of-length-le}
+use Rattle.clause.specs.Sets.{headOf}
+use Rattle.clause.proofs.StoreLaws.{number-at}
+use Rattle.clause.proofs.PlaceLaws.{head-most, rising-from}
 use borrow.Author.Needs.{needs}
 use Rattle.clause.proofs.resolution.head.Statement.{statement}
 use Rattle.clause.proofs.resolution.head.Tie as tie
@@ -15,39 +19,23 @@ mul-x c = search needs
 shared-slice-read-x : tie.Need-shared-slice-read-x
 shared-slice-read-x c = search needs
 
-cast-x : tie.Need-cast-x
-cast-x c = omega (arith, c .shared-slice-known .given (c .before .before .args .i))
-
 returns : tie.Need-returns
-returns c =
+returns c d h =
     let a = c .before .before .before .args in
-    record {
-      same = rw (in-stop (now (a .s)) (a .i) (omega arith) (c .if2 .taken));
-      most = omega arith;
-      small = λ h. omega arith;
-    }
+    let e : getD (now (a .s)) (a .i) 0 ≡ (headOf (drop (a .i) d) + 1) % 65536 = rw (h .same) (number-at d (a .i) (h .proper .rising)) in
+    omega (arith, head-most (drop (a .i) d) (rising-from (a .i) d (h .proper .rising)))
 
 sub-result : tie.Need-sub-result
 sub-result c = search needs
 
 returns-2 : tie.Need-returns-2
-returns-2 c =
+returns-2 c d h =
     let a = c .before .before .before .args in
-    record {
-      same = rw (in-more (now (a .s)) (a .i) (omega arith) (c .if2 .left));
-      most = omega (arith, c .before .shared-slice-known .given (a .i));
-      small = λ h. omega (arith, c .before .shared-slice-known .given (a .i));
-    }
+    let e : getD (now (a .s)) (a .i) 0 ≡ (headOf (drop (a .i) d) + 1) % 65536 = rw (h .same) (number-at d (a .i) (h .proper .rising)) in
+    omega (arith, head-most (drop (a .i) d) (rising-from (a .i) d (h .proper .rising)))
 
 returns-3 : tie.Need-returns-3
-returns-3 c =
-    let a = c .before .args in
-    record {
-      same = rw (drop-of-length-le (now (a .s)) {i = a .i} (omega arith));
-      most = omega arith;
-      small = λ h. omega arith;
-    }
+returns-3 c d h = ap headOf (sym (drop-of-length-le d {i = c .before .args .i} (omega (arith, h .proper .width))))
 
 pub head-spec : {M : Type 1} → statement M
-head-spec =
-    tie.close (tie.spec mul-x shared-slice-read-x cast-x returns sub-result returns-2 returns-3)
+head-spec = tie.close (tie.spec mul-x shared-slice-read-x returns sub-result returns-2 returns-3)

@@ -1,76 +1,97 @@
--- The two eights are parts of the store of eight numbers each, and the merge does the rest.
-use Rattle.clause.proofs.StoreLaws.{eight-bounds, eight-length}
-use denote.Ref.{now}
+-- Each pivot is looked for, and the first that is missing refuses; with both there, the copies are the clauses without them, and their join is
+-- the resolvent.
+use native.Mathlib.Omega.{arith}
+use mathlib.Core.Path.{refl, sym, _∙_}
+use borrow.Author.Tests.{not-true, not-false}
+use Rattle.model.specs.Clauses.{negative, resolvent}
+use Rattle.clause.specs.declared.resolution.Outcome.the-variants.{Missing}
+use Rattle.clause.proofs.SetLaws.{not-above}
+use Rattle.clause.proofs.JoinLaws.{refuses, no-first, no-second, both-there}
 use borrow.Author.Needs.{needs}
 use Rattle.clause.proofs.resolution.resolve.Statement.{statement}
 use Rattle.clause.proofs.resolution.resolve.Tie as tie
 use Rattle.clause.proofs.resolution.resolve.Reads as reads
 use Rattle.clause.proofs.resolution.resolve.Lts as lts
-use Rattle.clause.proofs.resolution.merge.Reads as merge-reads
+use Rattle.clause.proofs.resolution.has.Reads as has-reads
+use Rattle.clause.proofs.resolution.join.Reads as join-reads
+use Rattle.clause.proofs.resolution.refusal.Reads as refusal-reads
+use Rattle.clause.proofs.resolution.without.Reads as without-reads
+use Rattle.literal.proofs.Literal.negative.Reads as negative-reads
+use Rattle.literal.proofs.Literal.positive.Reads as positive-reads
 
-mul-first : tie.Need-mul-first
-mul-first c = search needs
-
-mul-second : tie.Need-mul-second
-mul-second c = search needs
-
-add-merge : tie.Need-add-merge
-add-merge c = search needs
-
-mul-merge : tie.Need-mul-merge
-mul-merge c = search needs
-
-sub-merge : tie.Need-sub-merge
-sub-merge c = search needs
-
-part-merge-start : tie.Need-part-merge-start
-part-merge-start c = search needs
-
-part-merge-end : tie.Need-part-merge-end
-part-merge-end c = search needs
-
-add-merge-2 : tie.Need-add-merge-2
-add-merge-2 c = search needs
-
-mul-merge-2 : tie.Need-mul-merge-2
-mul-merge-2 c = search needs
-
-sub-merge-2 : tie.Need-sub-merge-2
-sub-merge-2 c = search needs
-
-part-merge-start-2 : tie.Need-part-merge-start-2
-part-merge-start-2 c = search needs
-
-part-merge-end-2 : tie.Need-part-merge-end-2
-part-merge-end-2 c = search needs
-
-merge-requires : tie.Need-merge-requires
-merge-requires c κs =
-    let s = c .before .before .before in
-    let a = s .args in
-    rw (eight-bounds (a .a), eight-bounds (a .b))
-    (eight-length (now (a .store)) (a .a) (s .pre .0), eight-length (now (a .store)) (a .b) (s .pre .1), s .pre .2, s .pre .3)
+refusal-requires : tie.Need-refusal-requires
+refusal-requires c κs = search needs
 
 returns : tie.Need-returns
-returns c =
-    let a = c .before .before .before .before .args in
-    rw (eight-bounds (a .a), eight-bounds (a .b)) at (c .merge .ensures)
+returns c d e g h =
+    let v = c .before .before .before .before .args .v in
+    refuses _ Missing 10 (λ l line. refl) (c .refusal .ensures) (λ line. no-second v d e line (not-above (negative v) e (h .proper .rising) (omega arith)))
+
+positive-requires : tie.Need-positive-requires
+positive-requires c κs = search needs
+
+negative-requires : tie.Need-negative-requires
+negative-requires c κs = search needs
+
+has-requires : tie.Need-has-requires
+has-requires c κs = search needs
+
+refusal-requires-2 : tie.Need-refusal-requires-2
+refusal-requires-2 c κs = search needs
+
+returns-2 : tie.Need-returns-2
+returns-2 c d e g h =
+    let there = rw (c .before .before .before .before .positive .ensures) at (c .before .before .has .ensures d g) in
+    refuses _ Missing 10 (λ l line. refl) (c .refusal2 .ensures) (λ line. no-first _ d e line (sym there ∙ not-true _ (c .before .if2 .taken)))
+
+has-requires-2 : tie.Need-has-requires-2
+has-requires-2 c κs = search needs
+
+refusal-requires-3 : tie.Need-refusal-requires-3
+refusal-requires-3 c κs = search needs
+
+returns-3 : tie.Need-returns-3
+returns-3 c d e g h =
+    let there = rw (c .before .before .before .before .before .negative .ensures) at (c .before .before .has2 .ensures e h) in
+    refuses _ Missing 10 (λ l line. refl) (c .refusal3 .ensures) (λ line. no-second _ d e line (sym there ∙ not-true _ (c .before .if3 .taken)))
+
+without-requires : tie.Need-without-requires
+without-requires c κs = search needs
+
+without-requires-2 : tie.Need-without-requires-2
+without-requires-2 c κs = search needs
+
+join-requires : tie.Need-join-requires
+join-requires c κs = search needs
+
+returns-4 : tie.Need-returns-4
+unfolding resolvent
+returns-4 c d e g h =
+    let k = c .before .before .before .before .before in
+    let p = k .before .before .before .before .before .positive .ensures in
+    let q = k .before .before .before .before .negative .ensures in
+    let first = sym (k .before .before .before .has .ensures d g) ∙ not-false _ (k .before .before .if2 .left) in
+    let second = sym (k .before .has2 .ensures e h) ∙ not-false _ (k .if3 .left) in
+    let a = rw p at (c .before .before .before .before .without .ensures d g first) in
+    let b = rw q at (c .before .before .before .without2 .ensures e h second) in
+    let r = c .join .ensures _ _ a b in
+    record { held = r .held; same = λ line. r .same line ∙ both-there _ d e line (rw p at first) (rw q at second) }
 
 pub resolve-spec : {M : Type 1} → statement M
 resolve-spec =
     tie.close
     (tie.spec
-    mul-first
-    mul-second
-    add-merge
-    mul-merge
-    sub-merge
-    part-merge-start
-    part-merge-end
-    add-merge-2
-    mul-merge-2
-    sub-merge-2
-    part-merge-start-2
-    part-merge-end-2
-    merge-requires
-    returns)
+    refusal-requires
+    returns
+    positive-requires
+    negative-requires
+    has-requires
+    refusal-requires-2
+    returns-2
+    has-requires-2
+    refusal-requires-3
+    returns-3
+    without-requires
+    without-requires-2
+    join-requires
+    returns-4)

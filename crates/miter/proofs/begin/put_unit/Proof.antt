@@ -1,5 +1,6 @@
 -- A clause of one literal is what the store holds next (`BeginLaws`).
 use denote.Ref.{now}
+use Rattle.clause.proofs.PlaceLaws.{holds-own}
 use Rattle.miter.proofs.BeginLaws.{unit-clause, unit-proper, unit-held}
 use borrow.Author.Needs.{needs}
 use Rattle.miter.proofs.begin.put_unit.Statement.{statement}
@@ -16,7 +17,7 @@ save-requires : tie.Need-save-requires
 save-requires c κs =
     let a = c .before .before .before .args in
     let o = c .of-one .ensures in
-    (c .before .before .before .pre .0, o .room, rw (o .same, unit-clause (a .l .code)) (unit-proper (a .l .code) (c .before .before .before .pre .1) .rising))
+    (c .before .before .before .pre .0, holds-own o, rw (o .same, unit-clause (a .l .code)) (unit-proper (a .l .code) (c .before .before .before .pre .1) .rising))
 
 same-length : tie.Need-same-length
 same-length c = search needs
