@@ -1,23 +1,21 @@
 -- The verdict, by what the reader of both lists, the miter's writer and the replay answer.
-use Prim.Native.Nat.{ℕ, _+_, _-_, _*_, _≤_}
-use mathlib.Core.Path.{_≡_, refl, sym, ap, _∙_}
+use Prim.Native.Nat.{ℕ, _-_, _*_, _≤_}
+use mathlib.Core.Path.{_≡_, refl, sym, _∙_}
 use mathlib.Core.Bool.{Bool, true, false}
 use mathlib.Core.List.{List, [], _∷_, _++_}
 use native.Mathlib.Omega.{arith}
 use types.Run.{OneOf, miss}
 use denote.Enum.Declared.{tagOf}
 use lib.Dec.{leb}
-use lib.ListN.{length, take, drop, length-append, length-drop}
+use lib.ListN.{length, take}
 use Rattle.model.specs.Answers.{Answer, guard, bind, zeros, filled}
 use Rattle.model.specs.Answers.Answer.{ok, refused}
 use Rattle.model.specs.Limits.{clauseWidth, mostClauses}
 use Rattle.model.specs.Lines.{Line}
-use Rattle.model.specs.Nets.{Netlist}
 use Rattle.model.specs.Lists.{Lists, readBoth}
 use Rattle.model.specs.Miter.{miter}
 use Rattle.model.specs.Steps.{State, replay}
 use Rattle.model.specs.Checker.{begin, verdictOn, capacity, check, storedAll}
-use Rattle.laws.specs.ListText.{Stands, listText, list-length}
 use Rattle.netlist.proofs.Both as both-type
 use Rattle.netlist.specs.declared.Pair.{Pair}
 use Rattle.netlist.specs.declared.Both.{Both}
@@ -28,29 +26,7 @@ use Rattle.netlist.proofs.ReplyLaws.{BothLists, both-none}
 use Rattle.steps.specs.declared.Progress.{Progress}
 use Rattle.steps.specs.Progress.{Tracks}
 use Rattle.steps.proofs.HeldLaws.{all-width}
-use Rattle.miter.specs.Miters as miters
 use Rattle.miter.specs.Miters.{beginOf}
-
--- ---- the lists
-
--- a list has bytes, so its place is in the text
-pub stands-inside : (text : List ℕ) (place : ℕ) (n : Netlist) → Stands (drop place text) n → place ≤ length text
-stands-inside text place n s =
-    omega (arith, length-drop place text, ap length (s .text), length-append (listText n) (s .rest), list-length n)
-
-abbrev pub lists-of : {text : List ℕ} {p : Pair} → BothLists text p → miters.Lists text p
-lists-of {text} {p} b = record {
-  left = b .read .lists .left;
-  right = b .read .lists .right;
-  alike = b .alike;
-  left-stands = b .left-stands;
-  right-stands = b .right-stands;
-  place = stands-inside text (p .place) (b .read .lists .right) (b .right-stands);
-  inputs = b .inputs;
-  left-gates = b .left-gates;
-  right-gates = b .right-gates;
-  outputs = b .outputs;
-}
 
 -- ---- the verdict
 

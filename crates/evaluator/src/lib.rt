@@ -1,7 +1,7 @@
 // The evaluator: one list from a text, a pattern in, a word out (document 01, 'Lines on the wire').
 mod nets; // the values of nets, in a lent slice
 
-use frame::fields::clear_bytes;
+use clearing::clear_bytes;
 use netlist::Counts;
 use netlist::One;
 use netlist::Refusal;

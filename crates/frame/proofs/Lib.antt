@@ -1,4 +1,3 @@
-pub mod ClearLaws
 pub mod DigitLaws
 pub mod LineLaws
 pub mod DecodeLaws

@@ -4,11 +4,11 @@ pub mod digits; // digits of a line, and the fields that they spell
 pub mod fields; // a frame as its kind and fields, for writing
 pub mod report; // a report's line
 
+use clearing::clear_bytes;
 use digits::byte_at;
 use digits::digits_at;
 use digits::triple_at;
 use digits::word_at;
-use fields::clear_bytes;
 use fields::line_len;
 use fields::line_number_fits;
 use fields::write_line;
