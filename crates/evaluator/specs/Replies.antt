@@ -1,20 +1,11 @@
--- The values of nets as bytes, and the evaluator's answer.
+-- The evaluator's answer, and the room that it needs.
 use Prim.Native.Nat.{ℕ, _+_, _≤_}
-use mathlib.Core.Path.{_≡_}
-use mathlib.Core.Bool.{Bool}
-use mathlib.Core.List.{List, map}
-use lib.ListN.{length, take}
 use Rattle.model.specs.Limits.{mostInputs, mostGates, mostOutputs}
 use Rattle.model.specs.Answers.{Answer}
 use Rattle.model.specs.Answers.Answer.{ok, refused}
-use Rattle.model.specs.Nets.{bit}
 use Rattle.netlist.specs.declared.Counts.{Counts}
 use Rattle.evaluator.specs.declared.Evaluated.{Evaluated}
 use Rattle.evaluator.specs.declared.Evaluated.the-variants.{Word, Refused}
-
--- the bytes begin with the values vs, 1 for true and 0 for false
-abbrev pub Holds : List ℕ → List Bool → Type 0
-Holds values vs = take (length vs) values ≡ map bit vs
 
 abbrev pub evaluatedOf : Evaluated → Answer ℕ
 evaluatedOf (Word w) = ok w
