@@ -82,14 +82,9 @@ unread text n (Refused r) e k = rw (both-none text (r .number) (r .line) e)
 
 -- ---- the store afterwards
 
-pub kept : (store : List ℕ) (p : Progress) (s : State) → Tracks store p s
-    → take (clauseWidth * p .clauses) store ++ zeros (length store - clauseWidth * p .clauses)
-    ≡ storedAll (s .clauses) ++ zeros (length store - length (storedAll (s .clauses)))
-kept store p s t =
-    let e : clauseWidth * p .clauses ≡ clauseWidth * length (s .clauses) = omega (arith, t .clauses) in
-    rw (e, t .held .same, all-width (s .clauses) (t .held .proper))
-
--- the same of a store that had n numbers before
-pub kept-as : (store last : List ℕ) (p : Progress) (s : State) (n : ℕ) → Tracks store p s → length store ≡ n
+-- of one that had n numbers before: the clauses stay, and zeros come behind them
+pub kept : (store last : List ℕ) (p : Progress) (s : State) (n : ℕ) → Tracks store p s → length store ≡ n
     → last ≡ take (clauseWidth * p .clauses) store ++ zeros (length store - clauseWidth * p .clauses) → last ≡ filled n (storedAll (s .clauses))
-kept-as store last p s n t e is = is ∙ kept store p s t ∙ rw e
+kept store last p s n t e is =
+    let many : clauseWidth * p .clauses ≡ clauseWidth * length (s .clauses) = omega (arith, t .clauses) in
+    is ∙ rw (many, t .held .same, all-width (s .clauses) (t .held .proper), e)

@@ -5,8 +5,8 @@ use mathlib.Core.Path.{_≡_, refl, sym, _∙_}
 use mathlib.Core.List.{List, [], _∷_, _++_, append-assoc, append-nil}
 use native.Mathlib.Numerals.{add-one}
 use native.Mathlib.Omega.{arith}
-use lib.ListN.{length, take, set, length-set}
-use lib.Seq.{take-all, take-suc-set}
+use lib.ListN.{length, take, getD, set, length-set, getD-replicate}
+use lib.Seq.{take-all, take-suc-set, length-take-le, getD-append-add}
 use Rattle.model.specs.Answers.{zeros}
 
 -- s₀ is cleared from a place on as far as `at`, and s is what it holds now
@@ -27,6 +27,12 @@ module _ {s₀ : List ℕ} {from : ℕ} where
   ended {s} {at} c h =
       let none : length s₀ - at ≡ 0 = omega arith in
       sym (take-all at s h) ∙ sym (append-nil (take at s)) ∙ (rw none at (c .due))
+
+-- a place that is cleared
+pub cleared-at : (s last : List ℕ) (from h : ℕ) → last ≡ take from s ++ zeros (length s - from) → from + h < length s → getD last (from + h) 0 ≡ 0
+cleared-at s last from h is l =
+    let e : from + h ≡ length (take from s) + h = omega (arith, length-take-le from s (omega arith)) in
+    rw (is, e, getD-append-add) (getD-replicate (length s - from) h 0 0 (omega arith))
 
 -- from the start: zeros everywhere
 pub cleared : (s last : List ℕ) (n : ℕ) → length s ≡ n → last ≡ take 0 s ++ zeros (length s - 0) → last ≡ zeros n

@@ -5,7 +5,7 @@ use denote.Ref.{now}
 use lib.ListN.{length}
 use Rattle.laws.specs.Soundness.{sound}
 use Rattle.clearing.proofs.ClearLaws.{cleared}
-use Rattle.checker.proofs.VerdictLaws.{kept-as}
+use Rattle.checker.proofs.VerdictLaws.{kept}
 use borrow.Author.Needs.{needs}
 use Rattle.checker.proofs.check.Statement.{statement}
 use Rattle.checker.proofs.check.Tie as tie
@@ -45,7 +45,7 @@ returns c =
     let n = length (now (a .store)) in
     let l : length (v .last .1 .0) ≡ length (now (a .store)) = search needs in (
       rw (h .1, h .2 .steps, h .2 .clauses),
-      (rw (h .1) (kept-as (v .last .1 .0) _ _ (h .0) n (h .2) l (c .before .before .clear-numbers .ensures)), sound (now (a .text)) n (h .0) (h .1)),
+      (rw (h .1) (kept (v .last .1 .0) _ _ (h .0) n (h .2) l (c .before .before .clear-numbers .ensures)), sound (now (a .text)) n (h .0) (h .1)),
     )
 
 same-length-2 : tie.Need-same-length-2
