@@ -3,11 +3,11 @@ mod numbers; // a frame from a kind and numbers
 mod replies; // an answer as numbers
 
 use checker::check;
+use clearing::clear_bytes;
 use engine::prove;
 use evaluator::evaluate;
 use frame::Decoded;
 use frame::Written;
-use frame::fields::clear_bytes;
 use frame::read_frame;
 use frame::write_frame;
 use netlist::read_list;

@@ -14,7 +14,7 @@ ghost use Prim.Native.Nat.{_<_};
 ghost use lib.ListN.{getD, take};
 ghost use Rattle.frame.specs.Frames.{frameOf, decodedOf, writtenOf};
 ghost use Rattle.netlist.specs.Replies.{countsReply, countsOf, pairReply, pairOf};
-ghost use Rattle.evaluator.specs.Values.{evaluatedOf};
+ghost use Rattle.evaluator.specs.Replies.{evaluatedOf};
 ghost use Rattle.checker.specs.Verdicts.{checkedOf, countedOf};
 ghost use Rattle.engine.specs.Replies.{provedOf};
 ghost use Rattle.model.specs.Answers.{Answer};

@@ -9,7 +9,7 @@ use streams::STREAM_BYTES;
 ghost use mathlib.Core.Path.{_≡_};
 ghost use Prim.Native.Nat.{_≤_};
 ghost use Rattle.model.specs.Limits.{highestLine};
-ghost use Rattle.evaluator.specs.Values.{evaluatedOf};
+ghost use Rattle.evaluator.specs.Replies.{evaluatedOf};
 ghost use Rattle.cec_eval.specs.Program.{evaluated, program, Prints, wordLine, reportLine};
 
 // The digits of a word of 64 bits.

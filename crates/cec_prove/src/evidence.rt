@@ -1,5 +1,5 @@
 // What the program prints for a stream: both lists as they came and the engine's proof behind them, or one report frame with the refusal.
-use checker::clearing::clear_from;
+use clearing::clear_numbers;
 use engine::Proved;
 use engine::prove;
 use frame::Frame;
@@ -31,7 +31,7 @@ fn prove_stream(
     ensures { λ r. ⌜ Answered (now (stream .entry)) r (now (out .exit)) (now (work .exit)) ⌝ }
 {
     if STREAM_BYTES < stream.len() {
-        clear_from(work, 0);
+        clear_numbers(work, 0);
         return Proved::Refused(Refusal { number: 1, line: 0 });
     }
     prove(stream, out, work)

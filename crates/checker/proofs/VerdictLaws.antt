@@ -7,17 +7,15 @@ use native.Mathlib.Omega.{arith}
 use types.Run.{OneOf, miss}
 use denote.Enum.Declared.{tagOf}
 use lib.Dec.{leb}
-use lib.ListN.{length, take, drop, length-drop}
+use lib.ListN.{length, take}
 use Rattle.model.specs.Answers.{Answer, guard, bind, zeros, filled}
 use Rattle.model.specs.Answers.Answer.{ok, refused}
 use Rattle.model.specs.Limits.{clauseWidth, mostClauses}
 use Rattle.model.specs.Lines.{Line}
-use Rattle.model.specs.Nets.{Netlist}
 use Rattle.model.specs.Lists.{Lists, readBoth}
 use Rattle.model.specs.Miter.{miter}
 use Rattle.model.specs.Steps.{State, replay}
 use Rattle.model.specs.Checker.{begin, verdictOn, capacity, check, storedAll}
-use Rattle.laws.specs.ListText.{Stands, list-length}
 use Rattle.netlist.proofs.Both as both-type
 use Rattle.netlist.specs.declared.Pair.{Pair}
 use Rattle.netlist.specs.declared.Both.{Both}
@@ -28,28 +26,7 @@ use Rattle.netlist.proofs.ReplyLaws.{BothLists, both-none}
 use Rattle.steps.specs.declared.Progress.{Progress}
 use Rattle.steps.specs.Progress.{Tracks}
 use Rattle.steps.proofs.HeldLaws.{all-width}
-use Rattle.miter.specs.Miters as miters
 use Rattle.miter.specs.Miters.{beginOf}
-
--- ---- the lists
-
--- a list has bytes, so its place is in the text
-pub stands-inside : (text : List ℕ) (place : ℕ) (n : Netlist) → Stands (drop place text) n → place ≤ length text
-stands-inside text place n s = omega (arith, length-drop place text, list-length s)
-
-abbrev pub lists-of : {text : List ℕ} {p : Pair} → BothLists text p → miters.Lists text p
-lists-of {text} {p} b = record {
-  left = b .read .lists .left;
-  right = b .read .lists .right;
-  alike = b .alike;
-  left-stands = b .left-stands;
-  right-stands = b .right-stands;
-  place = stands-inside text (p .place) (b .read .lists .right) (b .right-stands);
-  inputs = b .inputs;
-  left-gates = b .left-gates;
-  right-gates = b .right-gates;
-  outputs = b .outputs;
-}
 
 -- ---- the verdict
 
@@ -105,14 +82,9 @@ unread text n (Refused r) e k = rw (both-none text (r .number) (r .line) e)
 
 -- ---- the store afterwards
 
-pub kept : (store : List ℕ) (p : Progress) (s : State) → Tracks store p s
-    → take (clauseWidth * p .clauses) store ++ zeros (length store - clauseWidth * p .clauses)
-    ≡ storedAll (s .clauses) ++ zeros (length store - length (storedAll (s .clauses)))
-kept store p s t =
-    let e : clauseWidth * p .clauses ≡ clauseWidth * length (s .clauses) = omega (arith, t .clauses) in
-    rw (e, t .held .same, all-width (s .clauses) (t .held .proper))
-
--- the same of a store that had n numbers before
-pub kept-as : (store last : List ℕ) (p : Progress) (s : State) (n : ℕ) → Tracks store p s → length store ≡ n
+-- of one that had n numbers before: the clauses stay, and zeros come behind them
+pub kept : (store last : List ℕ) (p : Progress) (s : State) (n : ℕ) → Tracks store p s → length store ≡ n
     → last ≡ take (clauseWidth * p .clauses) store ++ zeros (length store - clauseWidth * p .clauses) → last ≡ filled n (storedAll (s .clauses))
-kept-as store last p s n t e is = is ∙ kept store p s t ∙ rw e
+kept store last p s n t e is =
+    let many : clauseWidth * p .clauses ≡ clauseWidth * length (s .clauses) = omega (arith, t .clauses) in
+    is ∙ rw (many, t .held .same, all-width (s .clauses) (t .held .proper), e)

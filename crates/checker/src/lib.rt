@@ -1,11 +1,10 @@
 // The checker (document 01, 'Steps'): a text of two lists and a proof, and a lent clause store. Every text gets a reply: the counts of an
 // accepted proof, or a refusal with its place.
-pub mod clearing; // zeros behind the clauses
 mod replay; // all lines of a proof
 mod verdict; // the verdict, with the clauses left in the store
 
 use clause::Clause;
-use clearing::clear_from;
+use clearing::clear_numbers;
 use netlist::Refusal;
 use steps::Stepped;
 use verdict::verdict;
@@ -30,14 +29,14 @@ pub fn check(text: &[u8], store: &mut [u16]) -> Checked
     let answered = verdict(text, store);
     match answered {
         Stepped::Done(p) => {
-            clear_from(store, Clause::WIDTH * p.clauses);
+            clear_numbers(store, Clause::WIDTH * p.clauses);
             Checked::Accepted {
                 steps: p.steps,
                 clauses: p.clauses,
             }
         }
         Stepped::Refused(r) => {
-            clear_from(store, 0);
+            clear_numbers(store, 0);
             Checked::Refused(r)
         }
     }

@@ -1,6 +1,6 @@
 -- Places of clauses. An array that is filled place by place has the clause up to there, then the bound. Below a literal that a rising clause
 -- holds, the clause without it has the same literals at the same places, and from it on those of the next places.
-use Prim.Native.Nat.{ℕ, zero, suc, _+_, _<_, _≤_}
+use Prim.Native.Nat.{ℕ, zero, suc, _<_, _≤_}
 use mathlib.Core.Path.{_≡_, refl, sym, ap, _∙_, subst}
 use mathlib.Core.Bool.{true, false, true≢false}
 use mathlib.Core.List.{List, [], _∷_}

@@ -22,7 +22,7 @@ use Rattle.netlist.specs.declared.Both.{Both}
 use Rattle.netlist.specs.declared.Both.the-variants.{Paired, Refused}
 use Rattle.netlist.specs.Replies.{bothRefusal, pairReply, pairOf}
 use Rattle.netlist.proofs.ReplyLaws.{TwoLists, two-none}
-use Rattle.checker.proofs.VerdictLaws.{lists-of}
+use Rattle.miter.proofs.ListLaws.{lists-of}
 use Rattle.engine.specs.declared.Proved.{Proved}
 use Rattle.engine.specs.declared.Proved.the-variants as proved
 use Rattle.miter.specs.Miters as miters

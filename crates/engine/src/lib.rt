@@ -1,10 +1,10 @@
 // The engine (document 01, 'Folded form and the engine'): two lists in, a proof that they agree out, exactly when each output pair has the
 // same folded form. The first pass folds, the outputs are compared, and the second pass writes the proof.
-use checker::clearing::clear_from;
+use clearing::clear_bytes;
+use clearing::clear_numbers;
 use emit::pass::emit;
 use fold::pass::first_apart;
 use fold::pass::fold;
-use frame::fields::clear_bytes;
 use frame::kinds::RESOLVE_BYTES;
 use netlist::Both;
 use netlist::Pair;
@@ -75,7 +75,7 @@ pub fn prove(text: &[u8], proof: &mut [u8], work: &mut [u16]) -> Proved
     ensures { λ r. ⌜ model.Engine (now (text .entry)) (length (now (proof .entry))) (length (now (work .entry))) (provedOf r) (now (proof .exit)) (now (work .exit)) ⌝ }
 {
     let answered = answer(text, proof, work);
-    clear_from(work, 0);
+    clear_numbers(work, 0);
     match answered {
         Proved::Lines(n) => Proved::Lines(n),
         Proved::Refused(r) => {

@@ -1,21 +1,19 @@
 // The evaluator: one list from a text, a pattern in, a word out (document 01, 'Lines on the wire').
-mod nets; // the values of nets, in a lent slice
-
-use frame::fields::clear_bytes;
+use clearing::clear_bytes;
 use netlist::Counts;
 use netlist::One;
 use netlist::Refusal;
 use netlist::read_list;
-use nets::read_word;
-use nets::run_gates;
-use nets::set_inputs;
+use values::read_word;
+use values::run_gates;
+use values::set_inputs;
 ghost use mathlib.Core.Path.{_≡_};
 ghost use lib.ListN.{length};
 ghost use Rattle.model.specs.Answers.{zeros};
 ghost use Rattle.model.specs.Nets.{Netlist, eval};
 ghost use Rattle.model.specs.Evaluator as model;
 ghost use Rattle.laws.specs.ListText.{Stands};
-ghost use Rattle.evaluator.specs.Values.{evaluatedOf, Enough};
+ghost use Rattle.evaluator.specs.Replies.{evaluatedOf, Enough};
 
 pub enum Evaluated {
     Word(u64),
@@ -32,8 +30,8 @@ fn word_of(text: &[u8], counts: Counts, pattern: u64, work: &mut [u8]) -> u64
     let gates = counts.gates;
     let outputs = counts.outputs;
     set_inputs(work, inputs, pattern);
-    run_gates(text, work, inputs, gates);
-    read_word(text, work, gates, outputs)
+    run_gates(text, 0, work, inputs, gates);
+    read_word(text, 0, work, gates, outputs)
 }
 
 // The answer, with the working bytes in use.

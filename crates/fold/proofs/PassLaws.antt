@@ -5,13 +5,13 @@ use mathlib.Core.Bool.{true, cond}
 use mathlib.Core.List.{List, [], _∷_, _++_, map}
 use native.Mathlib.Omega.{arith}
 use native.Mathlib.Numerals.{add-one}
-use lib.ListN.{length, take, drop, getD, length-map, drop-of-length-le}
-use lib.Seq.{take-suc, take-all, length-take-le, drop-cons}
+use lib.ListN.{length, drop, getD, length-map, drop-of-length-le}
+use lib.Seq.{drop-cons}
 use lib.Dec.{eqb}
 use borrow.Author.Tests.{eq-eqb, ne-eqb}
-use Rattle.model.specs.Nets.{Gate, Netlist, netOf, readsBelow, grow, size}
+use Rattle.model.specs.Nets.{Gate, Netlist, netOf, readsBelow, size}
 use Rattle.model.specs.Miter.{gatesOf, zGates}
-use Rattle.laws.specs.Growing.{length-grow, grow-append}
+use Rattle.laws.specs.Growing as growing
 use Rattle.laws.specs.ListText.{ordered-at, below-at}
 use Rattle.laws.specs.Pairs as pairs
 use Rattle.laws.specs.MiterOrder.{length-gates, ordered-gates, shift-below}
@@ -42,24 +42,14 @@ bases-more k = let e : 0 + k ≡ k = omega arith in rw add-one (bases-next 0 k �
 
 -- the table once the first k gates are entered
 abbrev pub after : ℕ → List Gate → ℕ → List model.Entry
-after i gs k = grow model.entry (model.bases 0 (1 + i)) (take k gs)
+after i = growing.after model.entry (model.bases 0 (1 + i))
 
-module _ (i : ℕ) (gs : List Gate) where
-  pub after-length : (k : ℕ) → k ≤ length gs → length (after i gs k) ≡ 1 + i + k
-  after-length k h =
-      rw (length-grow model.entry (model.bases 0 (1 + i)) (take k gs), length-bases 0 (1 + i)) (omega (arith, length-take-le k gs h))
+pub after-none : (i : ℕ) (gs : List Gate) → after i gs 0 ≡ model.bases 0 (1 + i)
+after-none i = growing.after-none model.entry (model.bases 0 (1 + i))
 
-  pub after-none : after i gs 0 ≡ model.bases 0 (1 + i)
-  unfolding grow
-  after-none = refl
-
-  pub after-more : (k : ℕ) (d : Gate) → k < length gs → after i gs (k + 1) ≡ after i gs k ++ (model.entry (after i gs k) (getD gs k d) ∷ [])
-  unfolding grow
-  after-more k d h = rw (add-one, take-suc gs k d h) (grow-append model.entry (model.bases 0 (1 + i)) (take k gs) (getD gs k d ∷ []))
-
-  pub after-all : (k : ℕ) → length gs ≤ k → after i gs k ≡ model.tableOf i gs
-  unfolding model.tableOf
-  after-all k h = rw (take-all k gs h)
+pub after-all : (i : ℕ) (gs : List Gate) (k : ℕ) → length gs ≤ k → after i gs k ≡ model.tableOf i gs
+unfolding model.tableOf
+after-all i = growing.after-all model.entry (model.bases 0 (1 + i))
 
 -- gate k entered behind the nets before it
 pub gate-entered : (a b : Netlist) → pairs.Pair a b → (nets k v : ℕ) (g : Gate) (e : model.Entry) (work more : List ℕ) → k < length (gatesOf a b)
@@ -69,9 +59,9 @@ pub gate-entered : (a b : Netlist) → pairs.Pair a b → (nets k v : ℕ) (g : 
     → Indexed more nets (after (a .inputs) (gatesOf a b) (k + 1))
 gate-entered a b ab nets k v g e work more h n is held make put =
     let t : List model.Entry = after (a .inputs) (gatesOf a b) k in
-    let long : length t ≡ v = after-length (a .inputs) (gatesOf a b) k (omega arith) ∙ sym n in
+    let long : length t ≡ v = rw (growing.after-length model.entry (model.bases 0 (1 + a .inputs)) (gatesOf a b) k (omega arith), length-bases) (sym n) in
     let low : readsBelow v g ≡ true = rw (n, is) (ordered-at (1 + a .inputs) (gatesOf a b) k noGate (ordered-gates a b ab) h) in
-    rw (after-more (a .inputs) (gatesOf a b) k noGate h, ← is)
+    rw (growing.after-more model.entry (model.bases 0 (1 + a .inputs)) (gatesOf a b) k noGate h, ← is)
     (subst (λ (x : model.Entry). Indexed more nets (t ++ (x ∷ []))) (make t held long low) (put t held long))
 
 -- ---- outputs

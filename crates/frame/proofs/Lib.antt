@@ -1,4 +1,3 @@
-pub mod ClearLaws
 pub mod LineLaws
 pub mod DecodeLaws
 pub mod KindLaws

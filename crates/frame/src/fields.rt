@@ -8,13 +8,11 @@ use crate::kinds::OUTPUT_BYTES;
 use crate::kinds::REPORT_BYTES;
 use crate::kinds::RESOLVE_BYTES;
 ghost use mathlib.Core.Path.{_≡_};
-ghost use mathlib.Core.List.{_++_};
-ghost use Prim.Native.Nat.{_+_, _-_, _≤_, _<_};
+ghost use Prim.Native.Nat.{_+_, _≤_, _<_};
 ghost use lib.Dec.{leb};
-ghost use lib.ListN.{length, take};
+ghost use lib.ListN.{length};
 ghost use lib.Seq.{sets};
 ghost use Rattle.model.specs.Limits.{highestLine};
-ghost use Rattle.model.specs.Answers.{zeros};
 ghost use Rattle.model.specs.Lines.{digitOf};
 ghost use Rattle.model.specs.Frames.{hex, lineOf, statedLine};
 ghost use Rattle.frame.specs.Frames.{gateKind, extendKind, frameOf, Spells};
@@ -190,15 +188,4 @@ pub fn write_line(frame: Frame, out: &mut [u8], at: usize) -> usize
     }
     out[p] = 10;
     p + 1
-}
-
-// Zeros from a place on; where the place lies behind the last, nothing changes.
-pub fn clear_bytes(out: &mut [u8], from: usize)
-    ensures { λ _. ⌜ now (out .exit) ≡ take from (now (out .entry)) ++ zeros (length (now (out .entry)) - from) ⌝ }
-{
-    let mut at = from;
-    while at < out.len() {
-        out[at] = 0;
-        at += 1;
-    }
 }

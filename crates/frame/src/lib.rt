@@ -5,8 +5,8 @@ pub mod kinds; // the table of kinds, for reading
 pub mod report; // a report's line
 pub mod resolves; // a resolve's line, written without a loop
 
+use clearing::clear_bytes;
 use digits::digits_at;
-use fields::clear_bytes;
 use fields::line_len;
 use fields::line_number_fits;
 use fields::write_line;

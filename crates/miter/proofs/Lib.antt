@@ -1,4 +1,5 @@
 -- The laws; rt itself finds the proof of each function by its place.
+pub mod ListLaws
 pub mod MiterLaws
 pub mod BeginLaws
 pub mod ClauseLaws

@@ -6,6 +6,7 @@ use crate::rows::Entry;
 use crate::rows::ROW;
 use crate::rows::enter;
 use crate::rows::fits;
+use clearing::clear_numbers;
 use literal::Literal;
 ghost use mathlib.Core.Path.{_≡_};
 ghost use mathlib.Core.Bool.{Bool};
@@ -50,17 +51,12 @@ fn at_most(work: &[u16], at: usize, most: usize) -> usize
     n
 }
 
-// Buckets with no nets.
+// Buckets with no nets: zeros from the first one on.
 pub fn empty(work: &mut [u16], nets: usize)
     requires { ⌜ numbersPerNet * nets ≤ length (now work) ⌝ }
     ensures { λ _. ⌜ Indexed (now (work .exit)) nets [] ⌝ }
 {
-    let at = (ROW + LINKS) * nets;
-    let mut k: usize = 0;
-    while k < BUCKETS * nets {
-        work[at + k] = 0;
-        k += 1;
-    }
+    clear_numbers(work, (ROW + LINKS) * nets);
 }
 
 // The least net below v with this kind and key, or v. It is the last on the chain that fits; that keys are unique is not used.

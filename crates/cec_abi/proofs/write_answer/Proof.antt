@@ -2,13 +2,13 @@
 use mathlib.Core.Path.{refl}
 use denote.Ref.{now}
 use lib.ListN.{length}
-use Rattle.frame.proofs.ClearLaws.{cleared}
+use Rattle.clearing.proofs.ClearLaws.{cleared}
 use borrow.Author.Needs.{needs}
 use Rattle.cec_abi.proofs.write_answer.Statement.{statement}
 use Rattle.cec_abi.proofs.write_answer.Tie as tie
 use Rattle.cec_abi.proofs.write_answer.Reads as reads
 use Rattle.cec_abi.proofs.write_answer.Lts as lts
-use Rattle.frame.proofs.fields.clear_bytes.Reads as clear-bytes-reads
+use Rattle.clearing.proofs.clear_bytes.Reads as clear-bytes-reads
 use Rattle.frame.proofs.write_frame.Reads as write-frame-reads
 
 enum-known-answer : tie.Need-enum-known-answer

@@ -4,14 +4,14 @@ use native.Mathlib.Omega.{arith}
 use denote.Ref.{now}
 use lib.ListN.{length}
 use Rattle.laws.specs.Soundness.{sound}
-use Rattle.frame.proofs.ClearLaws.{cleared}
-use Rattle.checker.proofs.VerdictLaws.{kept-as}
+use Rattle.clearing.proofs.ClearLaws.{cleared}
+use Rattle.checker.proofs.VerdictLaws.{kept}
 use borrow.Author.Needs.{needs}
 use Rattle.checker.proofs.check.Statement.{statement}
 use Rattle.checker.proofs.check.Tie as tie
 use Rattle.checker.proofs.check.Reads as reads
 use Rattle.checker.proofs.check.Lts as lts
-use Rattle.checker.proofs.clearing.clear_from.Reads as clear-from-reads
+use Rattle.clearing.proofs.clear_numbers.Reads as clear-numbers-reads
 use Rattle.checker.proofs.verdict.verdict.Reads as verdict-reads
 
 verdict-requires : tie.Need-verdict-requires
@@ -20,19 +20,19 @@ verdict-requires c κs = search needs
 enum-known-answered : tie.Need-enum-known-answered
 enum-known-answered c = search needs
 
-mul-clear-from : tie.Need-mul-clear-from
-mul-clear-from c =
+mul-clear-numbers : tie.Need-mul-clear-numbers
+mul-clear-numbers c =
     let h = rw (c .before .before .before .answered .given .1) at (c .before .before .before .before .before .before .before .verdict .ensures) in
     omega (arith, h .3)
 
-clear-from-requires : tie.Need-clear-from-requires
-clear-from-requires c κs = search needs
+clear-numbers-requires : tie.Need-clear-numbers-requires
+clear-numbers-requires c κs = search needs
 
 enum-known-answered-2 : tie.Need-enum-known-answered-2
 enum-known-answered-2 c = search needs
 
-clear-from-requires-2 : tie.Need-clear-from-requires-2
-clear-from-requires-2 c κs = search needs
+clear-numbers-requires-2 : tie.Need-clear-numbers-requires-2
+clear-numbers-requires-2 c κs = search needs
 
 same-length : tie.Need-same-length
 same-length c = search needs
@@ -45,7 +45,7 @@ returns c =
     let n = length (now (a .store)) in
     let l : length (v .last .1 .0) ≡ length (now (a .store)) = search needs in (
       rw (h .1, h .2 .steps, h .2 .clauses),
-      (rw (h .1) (kept-as (v .last .1 .0) _ _ (h .0) n (h .2) l (c .before .before .clear-from .ensures)), sound (now (a .text)) n (h .0) (h .1)),
+      (rw (h .1) (kept (v .last .1 .0) _ _ (h .0) n (h .2) l (c .before .before .clear-numbers .ensures)), sound (now (a .text)) n (h .0) (h .1)),
     )
 
 same-length-2 : tie.Need-same-length-2
@@ -58,7 +58,7 @@ returns-2 c =
     let h = rw (c .before .before .before .before .before .answered2 .given .1) at (v .ensures) in
     let n = length (now (a .store)) in
     let l : length (v .last .1 .0) ≡ length (now (a .store)) = search needs in
-    (rw h, (rw h (cleared (v .last .1 .0) _ n l (c .before .before .clear-from2 .ensures)), tt))
+    (rw h, (rw h (cleared (v .last .1 .0) _ n l (c .before .before .clear-numbers2 .ensures)), tt))
 
 pub check-spec : {M : Type 1} → statement M
 check-spec =
@@ -66,10 +66,10 @@ check-spec =
     (tie.spec
     verdict-requires
     enum-known-answered
-    mul-clear-from
-    clear-from-requires
+    mul-clear-numbers
+    clear-numbers-requires
     enum-known-answered-2
-    clear-from-requires-2
+    clear-numbers-requires-2
     same-length
     returns
     same-length-2

@@ -2,7 +2,7 @@
 use denote.Ref.{now}
 use lib.ListN.{length}
 use Rattle.netlist.proofs.ReplyLaws.{two-lists}
-use Rattle.checker.proofs.VerdictLaws.{lists-of}
+use Rattle.miter.proofs.ListLaws.{lists-of}
 use Rattle.engine.proofs.AnswerLaws.{unread, answered}
 use borrow.Author.Needs.{needs}
 use Rattle.engine.proofs.answer.Statement.{statement}

@@ -2,7 +2,7 @@
 use mathlib.Core.Path.{refl}
 use denote.Ref.{now}
 use lib.ListN.{length}
-use Rattle.frame.proofs.ClearLaws.{cleared}
+use Rattle.clearing.proofs.ClearLaws.{cleared}
 use Rattle.engine.proofs.AnswerLaws.{due-16, due-17, due-18, due-proof, none-written}
 use borrow.Author.Needs.{needs}
 use Rattle.engine.proofs.folded.Statement.{statement}
@@ -12,7 +12,7 @@ use Rattle.engine.proofs.folded.Lts as lts
 use Rattle.emit.proofs.pass.emit.Reads as emit-reads
 use Rattle.fold.proofs.pass.first_apart.Reads as first-apart-reads
 use Rattle.fold.proofs.pass.fold.Reads as fold-reads
-use Rattle.frame.proofs.fields.clear_bytes.Reads as clear-bytes-reads
+use Rattle.clearing.proofs.clear_bytes.Reads as clear-bytes-reads
 
 add-gates : tie.Need-add-gates
 add-gates c = search needs

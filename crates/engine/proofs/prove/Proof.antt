@@ -2,22 +2,22 @@
 use mathlib.Core.Path.{_≡_}
 use denote.Ref.{now}
 use lib.ListN.{length}
-use Rattle.frame.proofs.ClearLaws.{cleared}
+use Rattle.clearing.proofs.ClearLaws.{cleared}
 use Rattle.engine.proofs.AnswerLaws.{keeps-refusal, keeps-proof}
 use borrow.Author.Needs.{needs}
 use Rattle.engine.proofs.prove.Statement.{statement}
 use Rattle.engine.proofs.prove.Tie as tie
 use Rattle.engine.proofs.prove.Reads as reads
 use Rattle.engine.proofs.prove.Lts as lts
-use Rattle.checker.proofs.clearing.clear_from.Reads as clear-from-reads
+use Rattle.clearing.proofs.clear_numbers.Reads as clear-numbers-reads
 use Rattle.engine.proofs.answer.Reads as answer-reads
-use Rattle.frame.proofs.fields.clear_bytes.Reads as clear-bytes-reads
+use Rattle.clearing.proofs.clear_bytes.Reads as clear-bytes-reads
 
 answer-requires : tie.Need-answer-requires
 answer-requires c κs = search needs
 
-clear-from-requires : tie.Need-clear-from-requires
-clear-from-requires c κs = search needs
+clear-numbers-requires : tie.Need-clear-numbers-requires
+clear-numbers-requires c κs = search needs
 
 enum-known-answered : tie.Need-enum-known-answered
 enum-known-answered c = search needs
@@ -41,7 +41,7 @@ returns c =
     let h = rw (c .before .answered .given .1) at (w .ensures) in
     let l : length (w .last .1 .1 .0) ≡ length (now (a .work)) = search needs in
     let m : length (w .last .1 .0) ≡ length (now (a .proof)) = search needs in
-    let z = cleared (w .last .1 .1 .0) _ (length (now (a .work))) l (c .before .before .before .before .before .clear-from .ensures) in
+    let z = cleared (w .last .1 .1 .0) _ (length (now (a .work))) l (c .before .before .before .before .before .clear-numbers .ensures) in
     keeps-proof (now (a .text)) (length (now (a .proof))) (length (now (a .work))) z (h .0) _ (h .1) (h .2) m (h .3)
 
 same-length-3 : tie.Need-same-length-3
@@ -57,7 +57,7 @@ returns-2 c =
     let h = rw (c .before .before .before .before .before .answered2 .given .1) at (w .ensures) in
     let l : length (w .last .1 .1 .0) ≡ length (now (a .work)) = search needs in
     let m : length (w .last .1 .0) ≡ length (now (a .proof)) = search needs in
-    let z = cleared (w .last .1 .1 .0) _ (length (now (a .work))) l (c .before .before .before .before .before .before .before .before .before .clear-from .ensures) in
+    let z = cleared (w .last .1 .1 .0) _ (length (now (a .work))) l (c .before .before .before .before .before .before .before .before .before .clear-numbers .ensures) in
     keeps-refusal (now (a .text)) (length (now (a .proof))) (length (now (a .work))) z _ _ h (cleared (w .last .1 .0) _ (length (now (a .proof))) m (c .before .before .clear-bytes .ensures))
 
 pub prove-spec : {M : Type 1} → statement M
@@ -65,7 +65,7 @@ prove-spec =
     tie.close
     (tie.spec
     answer-requires
-    clear-from-requires
+    clear-numbers-requires
     enum-known-answered
     enum-known-answered-2
     clear-bytes-requires

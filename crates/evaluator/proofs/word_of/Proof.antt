@@ -4,9 +4,9 @@ use Rattle.evaluator.proofs.word_of.Statement.{statement}
 use Rattle.evaluator.proofs.word_of.Tie as tie
 use Rattle.evaluator.proofs.word_of.Reads as reads
 use Rattle.evaluator.proofs.word_of.Lts as lts
-use Rattle.evaluator.proofs.nets.read_word.Reads as read-word-reads
-use Rattle.evaluator.proofs.nets.run_gates.Reads as run-gates-reads
-use Rattle.evaluator.proofs.nets.set_inputs.Reads as set-inputs-reads
+use Rattle.values.proofs.read_word.Reads as read-word-reads
+use Rattle.values.proofs.run_gates.Reads as run-gates-reads
+use Rattle.values.proofs.set_inputs.Reads as set-inputs-reads
 
 set-inputs-requires : tie.Need-set-inputs-requires
 set-inputs-requires c κs = search needs

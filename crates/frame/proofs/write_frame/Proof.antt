@@ -8,14 +8,14 @@ use Prim.Native.Nat.{ℕ}
 use denote.Ref.{now}
 use lib.ListN.{length, length-replicate}
 use Rattle.frame.specs.Frames.{frameOf}
-use Rattle.frame.proofs.ClearLaws.{cleared}
+use Rattle.clearing.proofs.ClearLaws.{cleared}
 use Rattle.frame.proofs.WriteLaws.{write-unfit, write-short, write-done}
 use borrow.Author.Needs.{needs}
 use Rattle.frame.proofs.write_frame.Statement.{statement}
 use Rattle.frame.proofs.write_frame.Tie as tie
 use Rattle.frame.proofs.write_frame.Reads as reads
 use Rattle.frame.proofs.write_frame.Lts as lts
-use Rattle.frame.proofs.fields.clear_bytes.Reads as clear-bytes-reads
+use Rattle.clearing.proofs.clear_bytes.Reads as clear-bytes-reads
 use Rattle.frame.proofs.fields.line_len.Reads as line-len-reads
 use Rattle.frame.proofs.fields.line_number_fits.Reads as line-number-fits-reads
 use Rattle.frame.proofs.fields.write_line.Reads as write-line-reads

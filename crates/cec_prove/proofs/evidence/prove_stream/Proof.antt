@@ -4,23 +4,23 @@ use native.Mathlib.Omega.{arith}
 use denote.Ref.{now}
 use lib.ListN.{length}
 use Rattle.cec_prove.specs.Streams.{proofBytes, workingNumbers}
-use Rattle.frame.proofs.ClearLaws.{cleared}
+use Rattle.clearing.proofs.ClearLaws.{cleared}
 use Rattle.cec_prove.proofs.StreamLaws.{too-long, answered}
 use borrow.Author.Needs.{needs}
 use Rattle.cec_prove.proofs.evidence.prove_stream.Statement.{statement}
 use Rattle.cec_prove.proofs.evidence.prove_stream.Tie as tie
 use Rattle.cec_prove.proofs.evidence.prove_stream.Reads as reads
 use Rattle.cec_prove.proofs.evidence.prove_stream.Lts as lts
-use Rattle.checker.proofs.clearing.clear_from.Reads as clear-from-reads
+use Rattle.clearing.proofs.clear_numbers.Reads as clear-numbers-reads
 use Rattle.engine.proofs.prove.Reads as prove-reads
 
-clear-from-requires : tie.Need-clear-from-requires
-clear-from-requires c κs = search needs
+clear-numbers-requires : tie.Need-clear-numbers-requires
+clear-numbers-requires c κs = search needs
 
 returns : tie.Need-returns
 returns c =
     let a = c .before .before .before .before .args in
-    let f = c .clear-from in
+    let f = c .clear-numbers in
     let long : length (now (a .work)) ≡ workingNumbers = search needs in
     (too-long (now (a .stream)) (omega (arith, c .before .before .if1 .taken)), cleared (now (a .work)) (f .last .0) workingNumbers long (f .ensures))
 
@@ -38,4 +38,4 @@ returns-2 c =
     answered (now (a .stream)) (omega (arith, c .before .before .before .if1 .left)) (p .result) (p .last .1 .0) (p .last .1 .1 .0) long promise
 
 pub prove-stream-spec : {M : Type 1} → statement M
-prove-stream-spec = tie.close (tie.spec clear-from-requires returns prove-requires returns-2)
+prove-stream-spec = tie.close (tie.spec clear-numbers-requires returns prove-requires returns-2)

@@ -5,7 +5,8 @@ use borrow.Author.Tests.{not-true, not-false}
 use denote.Ref.{now}
 use lib.ListN.{length}
 use Rattle.netlist.proofs.ReplyLaws.{both-lists}
-use Rattle.checker.proofs.VerdictLaws.{capacity-fits, lists-of, unread, begin-refused, replay-refused, not-empty, accepted}
+use Rattle.miter.proofs.ListLaws.{lists-of}
+use Rattle.checker.proofs.VerdictLaws.{capacity-fits, unread, begin-refused, replay-refused, not-empty, accepted}
 use borrow.Author.Needs.{needs}
 use Rattle.checker.proofs.verdict.verdict.Statement.{statement}
 use Rattle.checker.proofs.verdict.verdict.Tie as tie

@@ -1,0 +1,55 @@
+-- The invariant is `Clearing`: what lies before the loop's place and zeros behind it are what is due. The measure is what is left.
+use Prim.Native.Nat.{_-_}
+use native.Mathlib.Omega.{arith}
+use borrow.Author.Needs.{needs}
+use lib.ListN.{length}
+use Rattle.clearing.proofs.ClearLaws.{Clearing, begun, one-more, ended}
+use Rattle.clearing.proofs.clear_numbers.Statement.{statement}
+use Rattle.clearing.proofs.clear_numbers.Tie as tie
+use Rattle.clearing.proofs.clear_numbers.Reads as reads
+use Rattle.clearing.proofs.clear_numbers.Lts as lts
+
+abbrev Inv-loop : tie.InvT-loop
+Inv-loop numbers₀ from at₀ at-end numbers at = Clearing numbers₀ from numbers at
+
+abbrev μ-loop : tie.MeasureT-loop
+μ-loop numbers₀ from at₀ at-end numbers at = length numbers₀ - at
+
+loop-holds : tie.Need-loop-holds Inv-loop μ-loop
+loop-holds c = begun
+
+mul-numbers : tie.Need-mul-numbers Inv-loop μ-loop
+mul-numbers c = search needs
+
+slice-write-numbers : tie.Need-slice-write-numbers Inv-loop μ-loop
+slice-write-numbers c = search needs
+
+add-at : tie.Need-add-at Inv-loop μ-loop
+add-at c = search needs
+
+loop-less : tie.Need-loop-less Inv-loop μ-loop
+loop-less c = search needs
+
+loop-again : tie.Need-loop-again Inv-loop μ-loop
+loop-again c = one-more (c .before .loop .inv) (omega arith)
+
+same-length : tie.Need-same-length Inv-loop μ-loop
+same-length c = search needs
+
+returns : tie.Need-returns Inv-loop μ-loop
+returns c = ended (c .before .loop .inv) (omega arith)
+
+pub clear-numbers-spec : {M : Type 1} → statement M
+clear-numbers-spec =
+    tie.close
+    (tie.spec
+    Inv-loop
+    μ-loop
+    loop-holds
+    mul-numbers
+    slice-write-numbers
+    add-at
+    loop-less
+    loop-again
+    same-length
+    returns)
