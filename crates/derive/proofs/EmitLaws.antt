@@ -1,4 +1,4 @@
--- Derivations emitted one after the other: how many lines at most, a clause that is there, a cut of two, a derivation that goes on from
+-- Derivations emitted one after the other: how many lines at most, a clause that is there, the resolvent of two, a derivation that goes on from
 -- another's clause, and the trees of a gate.
 use Prim.Native.Nat.{ℕ, suc, _+_, _≤_}
 use mathlib.Core.Path.{_≡_, refl, sym, ap, _∙_, subst}
@@ -72,7 +72,7 @@ emits-then {m = m} {s = s} {a} {r} {d} {u} {t} f g h =
       number = g .number ∙ rw (c, h .number);
     }
 
--- two derivations, then the cut of their clauses
+-- two derivations, then the resolvent of their clauses
 pub emits-cut : {p q m o : List ℕ} {s a b r : Derived} {d e : Tree} {l : ℕ} → Emits p s q a d → Emits q a m b e
     → Emits m b o r (cut (old (a .clause)) (old (b .clause)) l) → Emits p s o r (cut d e l)
 unfolding lay

@@ -44,7 +44,7 @@ line-more p rs r e h w =
     (ap (λ (x : List ℕ). sets x (length (proofText rs)) (lineOf (frameOf r))) w
     ∙ store-behind (length p) (proofText rs) (lineOf (frameOf r)) (omega (arith, line-bytes r, proof-bytes rs)))
 
--- the cut of two clauses that are there
+-- the resolvent of two clauses that are there
 pub emits-line : (p : List ℕ) (s : Derived) (a b l : ℕ) {q : List ℕ} {r : Derived} {f : Frame} → Room (length p) s 1 → f ≡ frameOf (pivot a b l)
     → q ≡ sets p (proofLineBytes * s .lines) (lineOf f)
     → r ≡ record { lines = s .lines + 1; clauses = s .clauses + 1; clause = s .clauses + 1 } → Emits p s q r (cut (old a) (old b) l)

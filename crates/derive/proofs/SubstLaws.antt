@@ -13,7 +13,7 @@ use Rattle.derive.specs.Emission.{Emits}
 use Rattle.derive.proofs.EmitLaws.{emits-then}
 
 module _ (R E : ℕ → ℕ) {p q : List ℕ} {s r : Derived} (d : Tree) (l : ℕ) where
-  -- a literal that stands for itself stays; any other is cut with its link
+  -- a literal that stands for itself stays; any other is resolved with its link
   pub emits-own : own R l ≡ true → Emits p s q r d → Emits p s q r (subst1 R E d l)
   unfolding subst1
   emits-own e f = rw e f

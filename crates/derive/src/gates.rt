@@ -1,4 +1,4 @@
-// A gate and the numbers of its clauses: as the miter defines it, which its lines are made from, and as they derive it.
+// A gate and the numbers of its clauses: of those that define it, from which its lines are made, and of those that its lines derive.
 use crate::lines::Derived;
 use literal::Literal;
 ghost use mathlib.Core.Path.{_≡_};
@@ -16,7 +16,8 @@ pub struct DefinedGate {
     pub d: u16,
 }
 
-// Where the proof ends, and the numbers that are kept of the gate: those of the two clauses that link it, or of its clauses over its key.
+// Where the proof ends, and the numbers that are kept of the gate: those of the two clauses that link it, where linked, or else of its
+// clauses over its key.
 pub struct DerivedGate {
     pub lines: usize,
     pub clauses: u16,

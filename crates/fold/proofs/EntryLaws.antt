@@ -1,4 +1,4 @@
--- A gate's entry: what the definition enters for what was made, and which gate it is.
+-- A gate's entry: what the definition enters for what its operands fold to, and which gate it is.
 use Prim.Native.Nat.{ℕ, _≤_, _<_}
 use mathlib.Core.Path.{_≡_, sym, ap}
 use mathlib.Core.Bool.{Bool, true}

@@ -1,4 +1,4 @@
--- Two cuts, as `implyAnd` has them: the second clause is emitted first.
+-- Two resolutions, as `implyAnd` has them: the second clause is emitted first.
 use mathlib.Core.Path.{_∙_}
 use native.Mathlib.Omega.{arith}
 use Rattle.derive.proofs.EmitLaws.{few-then, room-then, emits-cut, emits-cut-right}

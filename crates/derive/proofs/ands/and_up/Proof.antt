@@ -1,4 +1,4 @@
--- Two cuts, as `implyAnd` has them, with two clauses that are there.
+-- Two resolutions, as `implyAnd` has them, with two clauses that are there.
 use mathlib.Core.Path.{_∙_}
 use native.Mathlib.Omega.{arith}
 use Rattle.derive.proofs.EmitLaws.{few-then, room-then, emits-cut-left}

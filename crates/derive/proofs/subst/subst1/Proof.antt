@@ -1,4 +1,4 @@
--- A literal that stands for itself stays; any other is cut with its link, by the case of the test.
+-- A literal that stands for itself stays; any other is resolved with its link, by the case of the test.
 use mathlib.Core.Path.{sym, _∙_}
 use mathlib.Core.Bool.{and-false}
 use mathlib.Core.Logic.{⊎-elim}

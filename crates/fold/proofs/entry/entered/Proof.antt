@@ -1,4 +1,4 @@
--- Each arm knows what was made.
+-- Each arm knows what the operands fold to.
 use Rattle.fold.proofs.EntryLaws.{linked-is}
 use borrow.Author.Needs.{needs}
 use Rattle.fold.proofs.entry.entered.Statement.{statement}
