@@ -20,15 +20,16 @@ use Rattle.steps.proofs.resolve_at.Reads as resolve-at-reads
 
 -- ---- both numbers are those of clauses
 
-first-number : (c : tie.After-resolve-at-arg) → ltb 0 (c .before .before .before .before .before .before .args .a) && leb (c .before .before .before .before .before .before .args .a) (c .before .before .before .before .before .before .args .p .clauses) ≡ true
+first-number : (c : tie.After-resolve-at-arg) → let a = c .before .before .before .before .before .before .args in ltb 0 (a .a) && leb (a .a) (a .p .clauses) ≡ true
 first-number c = sym (c .before .before .before .before .is-clause .ensures) ∙ not-false _ (c .before .before .before .if1 .left)
 
-second-number : (c : tie.After-resolve-at-arg) → ltb 0 (c .before .before .before .before .before .before .args .b) && leb (c .before .before .before .before .before .before .args .b) (c .before .before .before .before .before .before .args .p .clauses) ≡ true
+second-number : (c : tie.After-resolve-at-arg) → let a = c .before .before .before .before .before .before .args in ltb 0 (a .b) && leb (a .b) (a .p .clauses) ≡ true
 second-number c = sym (c .before .before .is-clause2 .ensures) ∙ not-false _ (c .before .if2 .left)
 
 -- what the step on the two clauses answers, in every state that the store stands for
-answers : (c : tie.After-resolve-at) (s : State) → Tracks (now (c .before .before .before .before .before .before .before .args .store)) (c .before .before .before .before .before .before .before .args .p) s
-    → Answers (c .resolve-at .result) (resolveOf (c .before .before .before .before .before .before .before .args .v) (clause (s .clauses) (c .before .before .before .before .before .before .before .args .a)) (clause (s .clauses) (c .before .before .before .before .before .before .before .args .b)))
+answers : (c : tie.After-resolve-at) (s : State)
+    → let a = c .before .before .before .before .before .before .before .args in
+    Tracks (now (a .store)) (a .p) s → Answers (c .resolve-at .result) (resolveOf (a .v) (clause (s .clauses) (a .a)) (clause (s .clauses) (a .b)))
 answers c s t =
     let a = c .before .before .before .before .before .before .before .args in
     let m = number (a .p .clauses) (a .a) (first-number (c .before)) in

@@ -1,9 +1,10 @@
 -- Each pivot is looked for, and the first that is missing refuses; with both there, the copies are the clauses without them, and their join is
 -- the resolvent.
 use native.Mathlib.Omega.{arith}
-use mathlib.Core.Path.{refl, sym, _∙_}
+use Prim.Native.Nat.{ℕ}
+use mathlib.Core.Path.{refl, sym, ap, _∙_}
 use borrow.Author.Tests.{not-true, not-false}
-use Rattle.model.specs.Clauses.{negative, resolvent}
+use Rattle.model.specs.Clauses.{holds, negative, resolvent}
 use Rattle.clause.specs.declared.resolution.Outcome.the-variants.{Missing}
 use Rattle.clause.proofs.SetLaws.{not-above}
 use Rattle.clause.proofs.JoinLaws.{refuses, no-first, no-second, both-there}
@@ -41,7 +42,7 @@ refusal-requires-2 c κs = search needs
 
 returns-2 : tie.Need-returns-2
 returns-2 c d e g h =
-    let there = rw (c .before .before .before .before .positive .ensures) at (c .before .before .has .ensures d g) in
+    let there = c .before .before .has .ensures d g ∙ ap (λ (l : ℕ). holds l d) (c .before .before .before .before .positive .ensures) in
     refuses _ Missing 10 (λ l line. refl) (c .refusal2 .ensures) (λ line. no-first _ d e line (sym there ∙ not-true _ (c .before .if2 .taken)))
 
 has-requires-2 : tie.Need-has-requires-2
@@ -52,7 +53,7 @@ refusal-requires-3 c κs = search needs
 
 returns-3 : tie.Need-returns-3
 returns-3 c d e g h =
-    let there = rw (c .before .before .before .before .before .negative .ensures) at (c .before .before .has2 .ensures e h) in
+    let there = c .before .before .has2 .ensures e h ∙ ap (λ (l : ℕ). holds l e) (c .before .before .before .before .before .negative .ensures) in
     refuses _ Missing 10 (λ l line. refl) (c .refusal3 .ensures) (λ line. no-second _ d e line (sym there ∙ not-true _ (c .before .if3 .taken)))
 
 without-requires : tie.Need-without-requires

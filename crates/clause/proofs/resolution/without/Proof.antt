@@ -2,14 +2,14 @@
 use borrow.Author.Needs.{needs}
 use native.Mathlib.Omega.{arith}
 use native.Mathlib.Numerals.{add-one}
-use Prim.Native.Nat.{_≤_, _-_}
+use Prim.Native.Nat.{ℕ, _≤_, _-_}
 use mathlib.Core.Path.{_≡_, refl, ap, _∙_}
 use mathlib.Core.Bool.{true}
-use lib.ListN.{length, take, length-set}
+use lib.ListN.{length, take, drop, length-set}
 use lib.Seq.{take-all}
 use Rattle.model.specs.Limits.{clauseWidth}
 use Rattle.model.specs.Clauses as model
-use Rattle.clause.specs.Sets.{filled, Stores}
+use Rattle.clause.specs.Sets.{headOf, filled, Stores}
 use Rattle.clause.proofs.SetLaws.{rising-without, length-without}
 use Rattle.clause.proofs.PlaceLaws.{place-out, filled-next}
 use Rattle.clause.proofs.resolution.without.Statement.{statement}
@@ -60,7 +60,7 @@ loop-again c =
       omega (arith, l .inv .0),
       simp length-set (l .inv .1),
       λ d g h.
-          let z = rw (add-one (l .i)) at (c .before .head2 .ensures d g) in
+          let z = c .before .head2 .ensures d g ∙ ap (λ (k : ℕ). headOf (drop k d)) (add-one (l .i)) in
           let p = rw (c .before .before .head .ensures d g, z) at (c .below .ensures) in
           rw (l .inv .2 d g h, place-out _ d (g .proper .rising) h (l .i) _ p, add-one (l .i)) (filled-next clauseWidth (l .i) (model.without _ d) (omega arith)),
     )
