@@ -14,6 +14,7 @@ use Rattle.model.specs.Frames.{dueAt, resolveKind}
 use Rattle.model.specs.Steps.{State, step, isStep, stepOf, stepAt, replay}
 use Rattle.model.specs.Steps.Step.{resolve}
 use Rattle.frame.proofs.Frame as frame-type
+use Rattle.frame.proofs.Line as line-type
 use Rattle.frame.specs.declared.Op.{Op}
 use Rattle.frame.specs.declared.Op.the-variants.{And, Xor}
 use Rattle.frame.specs.declared.Frame.{Frame}
@@ -21,8 +22,7 @@ use Rattle.frame.specs.declared.Frame.the-variants.{Header, Gate, Output, Resol
 use Rattle.frame.specs.declared.Line.{Line}
 use Rattle.frame.specs.declared.Line.the-variants.{Read, End, Refused}
 use Rattle.frame.specs.declared.Cursor.{Cursor}
-use Rattle.frame.specs.Frames.{frameOf, first, firstOf, Inside, NoFrame}
-use Rattle.frame.specs.Frames.First.{found}
+use Rattle.frame.specs.Frames.{frameOf, first, firstOf, Inside}
 use Rattle.frame.proofs.FirstLaws.{first-none, first-fault, first-found}
 use Rattle.netlist.specs.Says.{from}
 use Rattle.steps.specs.declared.Progress.{Progress}
@@ -65,20 +65,20 @@ unfolding guard
 by-frame room line s true f go = refl
 by-frame room line s false f go = refl
 
-replay-read : (room : ℕ) (s : State) (text : List ℕ) (c : Cursor) (f : Frame) (next : Cursor)
-    → found (frameOf f) (from text next) (next .line) ≡ first (from text c) (c .line)
+replay-read : (room : ℕ) (s : State) (text : List ℕ) (c : Cursor) (got : Line) → firstOf text got ≡ first (from text c) (c .line) → (f : Frame) (next : Cursor)
+    → got ≡ Read f next
     → replay room s (from text c) (c .line) ≡ bind (frameStep room (c .line) s (frameOf f)) (λ s′. replay room s′ (from text next) (next .line))
 unfolding replay stepAt dueAt frameStep
-replay-read room s text c f next e =
-    let r = first-found (from text c) (c .line) e in
+replay-read room s text c got e f next is =
+    let r = first-found (from text c) (c .line) (rw is at e) in
     rw (r .cut, r .frame, r .next-is) (by-frame room (c .line) s (isStep (frameOf f .kind)) (frameOf f) _)
 
 -- no frame stands there
 pub replay-ended : (room : ℕ) (s : State) (text : List ℕ) (c : Cursor) (got : Line) → firstOf text got ≡ first (from text c) (c .line)
-    → NoFrame got → (store : List ℕ) (p : Progress) → Tracks store p s → Within store p room
+    → OneOf (1 ∷ 2 ∷ []) (tagOf line-type.the-type got) → (store : List ℕ) (p : Progress) → Tracks store p s → Within store p room
     → Says room (replay room s (from text c) (c .line)) store (endedOf got p)
 unfolding replay stepAt dueAt
-replay-ended room s text c (Read f next) e k store p t w = absurd k
+replay-ended room s text c (Read f next) e k store p t w = absurd (miss (1 ∷ 2 ∷ []) 0 tt k)
 replay-ended room s text c End e k store p t w = rw (first-none (from text c) (c .line) e) (s, refl, t, w)
 replay-ended room s text c (Refused number place) e k store p t w =
     let r = first-fault (from text c) (c .line) e in
@@ -87,15 +87,15 @@ replay-ended room s text c (Refused number place) e k store p t w =
 -- ---- the loop
 
 -- what a line's answer says of the whole
-replay-step : (room : ℕ) (s : State) (text : List ℕ) (c : Cursor) (f : Frame) (next : Cursor)
-    → found (frameOf f) (from text next) (next .line) ≡ first (from text c) (c .line) → (s′ : State) → frameStep room (c .line) s (frameOf f) ≡ ok s′
+replay-step : (room : ℕ) (s : State) (text : List ℕ) (c : Cursor) (got : Line) → firstOf text got ≡ first (from text c) (c .line) → (f : Frame) (next : Cursor)
+    → got ≡ Read f next → (s′ : State) → frameStep room (c .line) s (frameOf f) ≡ ok s′
     → replay room s (from text c) (c .line) ≡ replay room s′ (from text next) (next .line)
-replay-step room s text c f next e s′ a = replay-read room s text c f next e ∙ rw a
+replay-step room s text c got e f next is s′ a = replay-read room s text c got e f next is ∙ rw a
 
-replay-refused : (room : ℕ) (s : State) (text : List ℕ) (c : Cursor) (f : Frame) (next : Cursor)
-    → found (frameOf f) (from text next) (next .line) ≡ first (from text c) (c .line) → (number line : ℕ) → frameStep room (c .line) s (frameOf f) ≡ refused number line
+replay-refused : (room : ℕ) (s : State) (text : List ℕ) (c : Cursor) (got : Line) → firstOf text got ≡ first (from text c) (c .line) → (f : Frame) (next : Cursor)
+    → got ≡ Read f next → (number line : ℕ) → frameStep room (c .line) s (frameOf f) ≡ refused number line
     → replay room s (from text c) (c .line) ≡ refused number line
-replay-refused room s text c f next e number line a = replay-read room s text c f next e ∙ rw a
+replay-refused room s text c got e f next is number line a = replay-read room s text c got e f next is ∙ rw a
 
 -- ---- lines replayed so far
 
@@ -122,7 +122,7 @@ module _ {room : ℕ} {text : List ℕ} {c₀ : Cursor} {store₀ : List ℕ} {p
   ran-refused number line f s t = let a = r .from-all s t in a .same ∙ f (a .state) (a .tracks)
 
 -- one line: its step is done, or is refused
-module _ (room : ℕ) (text : List ℕ) (c : Cursor) (f : Frame) (next : Cursor) (e : found (frameOf f) (from text next) (next .line) ≡ first (from text c) (c .line)) (store : List ℕ) (p : Progress) where
+module _ (room : ℕ) (text : List ℕ) (c : Cursor) (got : Line) (e : firstOf text got ≡ first (from text c) (c .line)) (f : Frame) (next : Cursor) (is : got ≡ Read f next) (store : List ℕ) (p : Progress) where
   pub ran-line : (store′ : List ℕ) (q : Progress) → Inside text next → Within store p room → length store′ ≡ length store
       → ((s : State) → Tracks store p s → Says room (frameStep room (c .line) s (frameOf f)) store′ (Done q)) → RanTo room text c store p store′ next q
   ran-line store′ q i w n step =
@@ -132,9 +132,9 @@ module _ (room : ℕ) (text : List ℕ) (c : Cursor) (f : Frame) (next : Cursor)
         long = n;
         from-all = λ s t.
             let k = step s t in
-            record { state = k .0; tracks = k .2; same = replay-step room s text c f next e (k .0) (k .1) };
+            record { state = k .0; tracks = k .2; same = replay-step room s text c got e f next is (k .0) (k .1) };
       }
 
   pub line-refused : (x : Refusal) (store′ : List ℕ) → ((s : State) → Tracks store p s → Says room (frameStep room (c .line) s (frameOf f)) store′ (stepped-case.Refused x))
       → (s : State) → Tracks store p s → replay room s (from text c) (c .line) ≡ refused (x .number) (x .line)
-  line-refused x store′ step s t = replay-refused room s text c f next e (x .number) (x .line) (step s t)
+  line-refused x store′ step s t = replay-refused room s text c got e f next is (x .number) (x .line) (step s t)

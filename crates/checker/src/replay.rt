@@ -3,8 +3,8 @@ use frame::Cursor;
 use frame::Frame;
 use frame::Line;
 use frame::kinds::Look;
-use frame::kinds::frame_at;
-use frame::unframed;
+use frame::kinds::resolve_line;
+use frame::read_line;
 use netlist::Refusal;
 use steps::Progress;
 use steps::Stepped;
@@ -17,6 +17,7 @@ ghost use Rattle.frame.specs.Frames.{frameOf, Inside};
 ghost use Rattle.netlist.specs.Says.{from};
 ghost use Rattle.steps.specs.Progress.{Tracks, Within, Says};
 ghost use Rattle.checker.specs.Lines.{frameStep, endedOf};
+ghost use Rattle.checker.specs.Replays.{RanSays, stoppedOf};
 
 // The step that a frame means: 3 unless it is a step.
 fn frame_step(store: &mut [u16], p: Progress, room: usize, line: usize, frame: Frame) -> Stepped
@@ -53,7 +54,50 @@ fn ended(got: Line, p: Progress) -> Stepped
     }
 }
 
-// The lines from a cursor on, to the end of the text or the first fault.
+// How far the resolves in a row went: a cursor behind them and the progress then, or the refusal of one.
+pub enum Ran {
+    At(Cursor, Progress),
+    Refused(Refusal),
+}
+
+// The refusal as the answer to all lines.
+fn stopped(ran: Ran) -> Stepped
+    ensures { λ r. ⌜ r ≡ stoppedOf ran ⌝ }
+{
+    match ran {
+        Ran::At(_, p) => Stepped::Done(p),
+        Ran::Refused(r) => Stepped::Refused(r),
+    }
+}
+
+// The resolves in a row from a cursor on that are known at one look. Long proofs have hardly any other line.
+fn run_resolves(text: &[u8], cursor: Cursor, store: &mut [u16], start: Progress, room: usize) -> Ran
+    requires { ⌜ Inside (now text) cursor × Within (now store) start room ⌝ }
+    ensures { λ r. ⌜ RanSays room (now (text .entry)) cursor (now (store .entry)) start (now (store .exit)) r ⌝ }
+{
+    let mut c = cursor;
+    let mut p = start;
+    loop {
+        let line = c.line;
+        let look = resolve_line(text, c.at);
+        let Look::Is(frame, behind) = look else {
+            return Ran::At(c, p);
+        };
+        let stepped = frame_step(store, p, room, line, frame);
+        match stepped {
+            Stepped::Done(q) => {
+                c = Cursor {
+                    at: behind,
+                    line: line + 1,
+                };
+                p = q;
+            }
+            Stepped::Refused(r) => return Ran::Refused(r),
+        }
+    }
+}
+
+// The lines from a cursor on: resolves in a row, then a line of any kind, and so on.
 pub fn replay(
     text: &[u8],
     cursor: Cursor,
@@ -67,21 +111,19 @@ pub fn replay(
     let mut c = cursor;
     let mut p = start;
     loop {
-        let line = c.line;
-        let look = frame_at(text, c.at);
-        let Look::Is(frame, behind) = look else {
-            return ended(unframed(text, c), p);
+        let ran = run_resolves(text, c, store, p, room);
+        let Ran::At(d, q) = ran else {
+            return stopped(ran);
         };
-        let stepped = frame_step(store, p, room, line, frame);
-        match stepped {
-            Stepped::Done(q) => {
-                c = Cursor {
-                    at: behind,
-                    line: line + 1,
-                };
-                p = q;
-            }
-            Stepped::Refused(r) => return Stepped::Refused(r),
-        }
+        let got = read_line(text, d);
+        let Line::Read(frame, next) = got else {
+            return ended(got, q);
+        };
+        let stepped = frame_step(store, q, room, d.line, frame);
+        let Stepped::Done(after) = stepped else {
+            return stepped;
+        };
+        c = next;
+        p = after;
     }
 }

@@ -3,10 +3,11 @@ use Prim.Native.Nat.{ℕ, suc, _+_, _<_, _≤_}
 use mathlib.Core.Path.{_≡_}
 use mathlib.Core.Bool.{Bool, true, false}
 use mathlib.Core.List.{List}
+use lib.Dec.{eqb}
 use lib.ListN.{length, take, drop, getD}
 use Rattle.model.specs.Answers.Answer.{refused}
 use Rattle.model.specs.Lines.{lineFeed, lines}
-use Rattle.model.specs.Frames.{oneByte, decode}
+use Rattle.model.specs.Frames.{oneByte, resolveKind, decode}
 use Rattle.digits.specs.Digits.{values, run, numberAt}
 use Rattle.frame.specs.Frames.{first, frameOf}
 use Rattle.frame.specs.Frames.First.{found}
@@ -33,3 +34,11 @@ Unframed text at = (n line : ℕ) → n ≡ run (drop at text) → at + n < leng
 abbrev pub Looked : List ℕ → ℕ → Look → Type 0
 Looked text at (Is f behind) = (at < behind) × (behind ≤ length text) × ((line : ℕ) → found (frameOf f) (lines (drop behind text)) (suc line) ≡ first (lines (drop at text)) line)
 Looked text at Other = Unframed text at
+
+-- the line at a place where a kind is due: it has this frame; or, if its kind is due, it has none
+abbrev pub Sought : (ℕ → Bool) → List ℕ → ℕ → Look → Type 0
+Sought due text at (Is f behind) = Looked text at (Is f behind)
+Sought due text at Other = (kind : ℕ) → KindAt text at kind → due kind ≡ true → Unframed text at
+
+abbrev pub isResolve : ℕ → Bool
+isResolve kind = eqb kind resolveKind

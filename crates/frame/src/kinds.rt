@@ -8,11 +8,19 @@ use digits::read::NO_WORD;
 use digits::read::byte_at;
 use digits::read::triple_at;
 use digits::read::word_at;
+ghost use mathlib.Core.Path.{_≡_};
 ghost use Prim.Native.Nat.{_<_, _≤_};
 ghost use lib.ListN.{length};
+ghost use mathlib.Core.Bool.{true};
+ghost use Rattle.model.specs.Lists.{isGate, isOutput};
 ghost use Rattle.model.specs.Frames.{headerKind, outputKind, resolveKind, reportKind};
 ghost use Rattle.frame.specs.Frames.{gateKind, extendKind};
-ghost use Rattle.frame.specs.Kinds.{KindAt, Feeds, Looked};
+ghost use Rattle.frame.specs.Kinds.{KindAt, Feeds, Looked, Sought, isResolve};
+
+// The kinds that are sought by themselves.
+const OUTPUT: u32 = 0x04;
+
+const RESOLVE: u32 = 0x11;
 
 // The bytes of each line, its LF counted.
 pub const HEADER_BYTES: usize = 11;
@@ -225,4 +233,70 @@ pub fn frame_at(text: &[u8], at: usize) -> Look
         0x21 => report_at(text, at),
         _ => Look::Other,
     }
+}
+
+// A gate's kind.
+fn is_gate(kind: u32) -> bool
+    ensures { λ r. ⌜ r ≡ isGate kind ⌝ }
+{
+    match kind {
+        0x02 => true,
+        0x03 => true,
+        _ => false,
+    }
+}
+
+// The operation of a gate's kind.
+fn op_of(kind: u32) -> Op
+    ensures { λ r. ⌜ (isGate kind ≡ true → gateKind r ≡ kind) ⌝ }
+{
+    match kind {
+        0x03 => Op::Xor,
+        _ => Op::And,
+    }
+}
+
+// The line at a place where a gate is due.
+pub fn gate_line(text: &[u8], at: usize) -> Look
+    requires { ⌜ at ≤ length (now text) ⌝ }
+    ensures { λ r. ⌜ Sought isGate (now (text .entry)) at r ⌝ }
+{
+    if text.len() - at < 2 {
+        return Look::Other;
+    }
+    let kind = byte_at(text, at);
+    if !is_gate(kind) {
+        return Look::Other;
+    }
+    gate_at(text, at, op_of(kind))
+}
+
+// Where an output is due.
+pub fn output_line(text: &[u8], at: usize) -> Look
+    requires { ⌜ at ≤ length (now text) ⌝ }
+    ensures { λ r. ⌜ Sought isOutput (now (text .entry)) at r ⌝ }
+{
+    if text.len() - at < 2 {
+        return Look::Other;
+    }
+    let kind = byte_at(text, at);
+    if kind != OUTPUT {
+        return Look::Other;
+    }
+    output_at(text, at)
+}
+
+// Where a resolve is due.
+pub fn resolve_line(text: &[u8], at: usize) -> Look
+    requires { ⌜ at ≤ length (now text) ⌝ }
+    ensures { λ r. ⌜ Sought isResolve (now (text .entry)) at r ⌝ }
+{
+    if text.len() - at < 2 {
+        return Look::Other;
+    }
+    let kind = byte_at(text, at);
+    if kind != RESOLVE {
+        return Look::Other;
+    }
+    resolve_at(text, at)
 }

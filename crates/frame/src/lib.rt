@@ -101,7 +101,7 @@ fn fault_at(text: &[u8], at: usize) -> u8
 }
 
 // What stands at a cursor where no frame does: nothing, or a line that is refused.
-pub fn unframed(text: &[u8], cursor: Cursor) -> Line
+fn unframed(text: &[u8], cursor: Cursor) -> Line
     requires { ⌜ Inside (now text) cursor ⌝ }
     ensures reads { λ r. ⌜ (Unframed (now (text .entry)) (cursor .at) → firstOf (now (text .entry)) r ≡ first (lines (drop (cursor .at) (now (text .entry)))) (cursor .line)) ⌝ }
     ensures none { λ r. ⌜ NoFrame r ⌝ }

@@ -26,8 +26,8 @@ use Rattle.frame.specs.declared.Frame.the-variants as frame-case
 use Rattle.frame.specs.declared.kinds.Look.{Look}
 use Rattle.frame.specs.declared.kinds.Look.the-variants.{Is, Other}
 use Rattle.frame.specs.Frames.{first, frameOf}
-use Rattle.frame.specs.Kinds.{Looked}
-use Rattle.frame.proofs.KindLaws.{none-found-at}
+use Rattle.frame.specs.Kinds.{Sought}
+use Rattle.frame.proofs.KindLaws.{not-found}
 use Rattle.frame.specs.Frames.First.{found}
 use Rattle.netlist.specs.declared.again.Gate.{Gate}
 use Rattle.netlist.specs.Again.{opOf, gateMeant, noGate}
@@ -42,19 +42,19 @@ beyond text place h r =
     let e : [] ≡ r .0 ∷ r .1 = rw (drop-of-length-le text {i = place} (omega arith)) at (r .2) in
     omega (arith, ap length e)
 
-module _ (text : List ℕ) (place : ℕ) (look : Look) (h : Looked text place look) (f : model.Frame) (r : FirstReads (drop place text) 1 f) where
+module _ (due : ℕ → Bool) (text : List ℕ) (place : ℕ) (look : Look) (h : Sought due text place look) (f : model.Frame) (r : FirstReads (drop place text) 1 f) where
   first-is : first (lines (drop place text)) 1 ≡ found f (r .1) 2
   unfolding first
   first-is = rw (r .2, r .3)
 
-  -- there is a frame
-  pub not-missing : place ≤ length text → look ≡ Other → ⊥
-  not-missing l is = none-found-at text place 1 l (rw is at h) first-is
+  -- there is a frame of a kind that is due
+  pub not-missing : due (f .kind) ≡ true → place ≤ length text → look ≡ Other → ⊥
+  not-missing d l is = true≢false (sym d ∙ not-found due text place 1 l (rw is at h) first-is)
 
   -- and it is this one
   pub found-again : (g : Frame) (behind : ℕ) → look ≡ Is g behind → frameOf g ≡ f
   found-again g behind is =
-      let k : Looked text place (Is g behind) = rw is at h in
+      let k : Sought due text place (Is g behind) = rw is at h in
       same-found (k .2 1 ∙ first-is)
     where
       same-found : {g h : model.Frame} {ls ms : List model-line.Line} {i j : ℕ} → found g ls i ≡ found h ms j → g ≡ h
@@ -62,7 +62,7 @@ module _ (text : List ℕ) (place : ℕ) (look : Look) (h : Looked text place lo
 
 -- ---- gates and outputs
 
-gate-kind : (g : nets.Gate) → isGate (gateFrame g .kind) ≡ true
+pub gate-kind : (g : nets.Gate) → isGate (gateFrame g .kind) ≡ true
 gate-kind g = go (isXor (g .op))
   where
     go : (b : Bool) → isGate (cond b xorKind andKind) ≡ true

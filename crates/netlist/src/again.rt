@@ -6,7 +6,8 @@ use frame::kinds::GATE_BYTES;
 use frame::kinds::HEADER_BYTES;
 use frame::kinds::Look;
 use frame::kinds::OUTPUT_BYTES;
-use frame::kinds::frame_at;
+use frame::kinds::gate_line;
+use frame::kinds::output_line;
 ghost use mathlib.Core.Path.{_≡_};
 ghost use Prim.Native.Nat.{_≤_, _<_};
 ghost use lib.ListN.{drop, length, getD};
@@ -34,7 +35,7 @@ pub fn gate_at(text: &[u8], at: usize, k: usize) -> Gate
             y: 0,
         };
     }
-    let look = frame_at(text, place);
+    let look = gate_line(text, place);
     let Look::Is(frame, _) = look else {
         return Gate {
             op: Op::And,
@@ -70,7 +71,7 @@ pub fn output_at(text: &[u8], at: usize, gates: usize, k: usize) -> u16
     if text.len() < place {
         return 0;
     }
-    let look = frame_at(text, place);
+    let look = output_line(text, place);
     let Look::Is(frame, _) = look else {
         return 0;
     };

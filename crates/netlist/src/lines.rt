@@ -8,9 +8,9 @@ use frame::Cursor;
 use frame::Frame;
 use frame::Line;
 use frame::kinds::Look;
-use frame::kinds::frame_at;
+use frame::kinds::gate_line;
+use frame::kinds::output_line;
 use frame::read_line;
-use frame::unframed;
 use literal::Literal;
 ghost use mathlib.Core.Path.{_≡_};
 ghost use Prim.Native.Nat.{_+_, _≤_};
@@ -84,9 +84,9 @@ pub fn read_gates(text: &[u8], cursor: Cursor, first: usize, count: usize) -> Be
     let mut i: usize = 0;
     while i < count {
         let line = cursor.line + i;
-        let look = frame_at(text, at);
+        let look = gate_line(text, at);
         let Look::Is(frame, behind) = look else {
-            return Behind::Refused(missing(unframed(text, Cursor { at, line }), line));
+            return Behind::Refused(missing(read_line(text, Cursor { at, line }), line));
         };
         let Frame::Gate { op: _, x, y } = frame else {
             return Behind::Refused(Refusal { number: 3, line });
@@ -113,9 +113,9 @@ pub fn read_outputs(text: &[u8], cursor: Cursor, nets: usize, count: usize) -> B
     let mut i: usize = 0;
     while i < count {
         let line = cursor.line + i;
-        let look = frame_at(text, at);
+        let look = output_line(text, at);
         let Look::Is(frame, behind) = look else {
-            return Behind::Refused(missing(unframed(text, Cursor { at, line }), line));
+            return Behind::Refused(missing(read_line(text, Cursor { at, line }), line));
         };
         let Frame::Output { literal } = frame else {
             return Behind::Refused(Refusal { number: 3, line });

@@ -1,12 +1,11 @@
--- The invariant: the lines up to the cursor are replayed, whatever the state was (`ReplayLaws`). The measure is what is left of the text.
-use Prim.Native.Nat.{_+_, _-_}
+-- The invariant: the lines up to the cursor are replayed, whatever the state was (`ReplayLaws`). A turn is a row of resolves and one line of any
+-- kind; the measure is what is left of the text.
+use Prim.Native.Nat.{_-_}
 use mathlib.Core.Path.{_≡_, _∙_}
 use native.Mathlib.Omega.{arith}
 use borrow.Author.Needs.{needs}
 use denote.Ref.{now}
 use lib.ListN.{length}
-use Rattle.frame.specs.declared.Cursor.{Cursor}
-use Rattle.frame.proofs.KindLaws.{look-framed, look-unframed}
 use Rattle.checker.specs.Replays.{RanTo}
 use Rattle.checker.proofs.ReplayLaws.{replay-ended, ran-none, ran-joined, ran-refused, ran-line, line-refused}
 use Rattle.checker.proofs.replay.replay.Statement.{statement}
@@ -15,8 +14,9 @@ use Rattle.checker.proofs.replay.replay.Reads as reads
 use Rattle.checker.proofs.replay.replay.Lts as lts
 use Rattle.checker.proofs.replay.ended.Reads as ended-reads
 use Rattle.checker.proofs.replay.frame_step.Reads as frame-step-reads
-use Rattle.frame.proofs.kinds.frame_at.Reads as frame-at-reads
-use Rattle.frame.proofs.unframed.Reads as unframed-reads
+use Rattle.checker.proofs.replay.run_resolves.Reads as run-resolves-reads
+use Rattle.checker.proofs.replay.stopped.Reads as stopped-reads
+use Rattle.frame.proofs.read_line.Reads as read-line-reads
 
 abbrev Inv-loop : tie.InvT-loop
 Inv-loop text store₀ room c₀ p₀ store c p = RanTo room text c₀ store₀ p₀ store c p
@@ -27,90 +27,100 @@ abbrev μ-loop : tie.MeasureT-loop
 loop-holds : tie.Need-loop-holds Inv-loop μ-loop
 loop-holds c = ran-none (c .before .before .pre .0) (c .before .before .pre .1)
 
-frame-at-requires : tie.Need-frame-at-requires Inv-loop μ-loop
-frame-at-requires c κs = c .loop .inv .inside .at
+run-resolves-requires : tie.Need-run-resolves-requires Inv-loop μ-loop
+run-resolves-requires c κs = (c .before .loop .inv .inside, c .before .loop .inv .within)
 
-enum-known-look : tie.Need-enum-known-look Inv-loop μ-loop
-enum-known-look c = search needs
+enum-known-ran : tie.Need-enum-known-ran Inv-loop μ-loop
+enum-known-ran c = search needs
 
 enum-told : tie.Need-enum-told Inv-loop μ-loop
 enum-told c = search needs
 
-unframed-requires : tie.Need-unframed-requires Inv-loop μ-loop
-unframed-requires c κs = c .before .before .before .loop .inv .inside
+stopped-requires : tie.Need-stopped-requires Inv-loop μ-loop
+stopped-requires c κs = search needs
+
+same-length : tie.Need-same-length Inv-loop μ-loop
+same-length c =
+    let l = c .before .before .before .before .before .before .before .loop in
+    let e : length (c .before .before .before .before .before .run-resolves .last .1 .1 .0) ≡ length (l .store) = search needs in
+    e ∙ l .inv .long
+
+returns : tie.Need-returns Inv-loop μ-loop
+returns c =
+    let told = c .before .enum-told .given in
+    λ s t. rw (c .stopped .ensures, told .1) (ran-refused (c .before .before .before .before .before .before .before .loop .inv) _ _ (rw (told .1) at (c .before .before .before .before .before .run-resolves .ensures)) s t)
+
+read-line-requires : tie.Need-read-line-requires Inv-loop μ-loop
+read-line-requires c κs = (rw (c .before .ran .given .1) at (c .before .before .before .before .before .run-resolves .ensures)) .0 .inside
+
+enum-known-got : tie.Need-enum-known-got Inv-loop μ-loop
+enum-known-got c = search needs
 
 ended-requires : tie.Need-ended-requires Inv-loop μ-loop
 ended-requires c κs = search needs
 
-same-length : tie.Need-same-length Inv-loop μ-loop
-same-length c = c .before .before .before .before .before .loop .inv .long
-
-returns : tie.Need-returns Inv-loop μ-loop
-returns c =
-    let a = c .before .before .before .before .before .before .before .before .args in
-    let l = c .before .before .before .before .before .loop in
-    let look = c .before .before .before .before .frame-at in
-    let u = look-unframed (now (a .text)) (l .c) (look .ensures) (c .before .before .enum-told .given .1) in
-    let none = c .before .unframed in
-    λ s t.
-    let r = l .inv .from-all s t in
-    rw (c .ended .ensures, r .same)
-    (replay-ended (a .room) (r .state) (now (a .text)) (l .c) (none .result) (none .ensures .0 u) (none .ensures .1) _ _ (r .tracks) (l .inv .within))
-
-frame-step-requires : tie.Need-frame-step-requires Inv-loop μ-loop
-frame-step-requires c κs = c .before .before .before .before .before .loop .inv .within
-
-enum-known-stepped : tie.Need-enum-known-stepped Inv-loop μ-loop
-enum-known-stepped c = search needs
-
-add-t18 : tie.Need-add-t18 Inv-loop μ-loop
-add-t18 c =
-    let a = c .before .before .before .before .before .before .before .before .before .before .before .before .before .before .args in
-    let l = c .before .before .before .before .before .before .before .before .before .before .before .loop in
-    let k = look-framed (now (a .text)) (l .c) (c .before .before .before .before .before .before .before .before .before .before .frame-at .ensures) (l .inv .inside .line) (c .before .before .before .before .before .before .before .before .look .given .1) in
-    let m = k .1 .0 .at in
-    let n = k .1 .0 .line in
-    search needs
-
-loop-less : tie.Need-loop-less Inv-loop μ-loop
-loop-less c =
-    let a = c .before .before .before .before .before .before .before .before .before .before .before .before .before .before .args in
-    let l = c .before .before .before .before .before .before .before .before .before .before .before .loop in
-    let look = c .before .before .before .before .before .before .before .before .look .given in
-    let known = look-framed (now (a .text)) (l .c) (c .before .before .before .before .before .before .before .before .before .before .frame-at .ensures) (l .inv .inside .line) (look .1) in
-    omega (arith, known .1 .1, known .1 .0 .at)
-
-loop-again : tie.Need-loop-again Inv-loop μ-loop
-loop-again c =
-    let a = c .before .before .before .before .before .before .before .before .before .before .before .before .before .before .args in
-    let l = c .before .before .before .before .before .before .before .before .before .before .before .loop in
-    let look = c .before .before .before .before .before .before .before .before .look .given in
-    let known = look-framed (now (a .text)) (l .c) (c .before .before .before .before .before .before .before .before .before .before .frame-at .ensures) (l .inv .inside .line) (look .1) in
-    let f = look .0 .0 in
-    let next : Cursor = record { at = look .0 .1 .0; line = l .c .line + 1 } in
-    let step = c .before .before .before .before .before .frame-step in
-    let e : length (step .last .0) ≡ length (l .store) = search needs in
-    ran-joined (l .inv) (ran-line (a .room) (now (a .text)) (l .c) f next (known .0) (l .store) (l .p) (step .last .0) _ (known .1 .0) (l .inv .within) e (λ s t. rw (c .before .stepped .given .1) at (step .ensures s t)))
-
-enum-known-stepped-2 : tie.Need-enum-known-stepped-2 Inv-loop μ-loop
-enum-known-stepped-2 c = search needs
-
 same-length-2 : tie.Need-same-length-2 Inv-loop μ-loop
 same-length-2 c =
-    let l = c .before .before .before .before .before .before .before .before .before .before .before .loop in
-    let e : length (c .before .before .before .before .before .frame-step .last .0) ≡ length (l .store) = search needs in
+    let l = c .before .before .before .before .before .before .before .before .before .before .loop in
+    let e : length (c .before .before .before .before .before .before .before .before .run-resolves .last .1 .1 .0) ≡ length (l .store) = search needs in
     e ∙ l .inv .long
 
 returns-2 : tie.Need-returns-2 Inv-loop μ-loop
 returns-2 c =
-    let a = c .before .before .before .before .before .before .before .before .before .before .before .before .before .before .args in
-    let l = c .before .before .before .before .before .before .before .before .before .before .before .loop in
-    let look = c .before .before .before .before .before .before .before .before .look .given in
-    let known = look-framed (now (a .text)) (l .c) (c .before .before .before .before .before .before .before .before .before .before .frame-at .ensures) (l .inv .inside .line) (look .1) in
-    let f = look .0 .0 in
-    let next : Cursor = record { at = look .0 .1 .0; line = l .c .line + 1 } in
+    let a = c .before .before .before .before .before .before .before .before .before .before .before .before .before .args in
+    let row = (rw (c .before .before .before .before .ran .given .1) at (c .before .before .before .before .before .before .before .before .run-resolves .ensures)) .0 in
+    let got = c .before .before .read-line in
+    λ s t.
+    let r = ran-joined (c .before .before .before .before .before .before .before .before .before .before .loop .inv) row .from-all s t in
+    rw (c .ended .ensures, r .same)
+    (replay-ended (a .room) (r .state) (now (a .text)) (c .before .before .before .before .ran .given .0 .0) (got .result) (got .ensures .0) (c .before .match2 .keys2) _ _ (r .tracks) (row .within))
+
+frame-step-requires : tie.Need-frame-step-requires Inv-loop μ-loop
+frame-step-requires c κs = (rw (c .before .before .before .before .before .before .ran .given .1) at (c .before .before .before .before .before .before .before .before .before .before .run-resolves .ensures)) .0 .within
+
+enum-known-stepped : tie.Need-enum-known-stepped Inv-loop μ-loop
+enum-known-stepped c = search needs
+
+enum-told-2 : tie.Need-enum-told-2 Inv-loop μ-loop
+enum-told-2 c = search needs
+
+same-length-3 : tie.Need-same-length-3 Inv-loop μ-loop
+same-length-3 c =
+    let l = c .before .before .before .before .before .before .before .before .before .before .before .before .before .before .before .before .before .loop in
+    let e : length (c .before .before .before .before .frame-step .last .0) ≡ length (c .before .before .before .before .before .before .before .before .before .before .before .before .before .before .before .run-resolves .last .1 .1 .0) = search needs in
+    let f : length (c .before .before .before .before .before .before .before .before .before .before .before .before .before .before .before .run-resolves .last .1 .1 .0) ≡ length (l .store) = search needs in
+    e ∙ f ∙ l .inv .long
+
+returns-3 : tie.Need-returns-3 Inv-loop μ-loop
+returns-3 c =
+    let a = c .before .before .before .before .before .before .before .before .before .before .before .before .before .before .before .before .before .before .before .before .args in
+    let row = (rw (c .before .before .before .before .before .before .before .before .before .before .before .ran .given .1) at (c .before .before .before .before .before .before .before .before .before .before .before .before .before .before .before .run-resolves .ensures)) .0 in
+    let one = c .before .before .before .before .before .before .before .before .before .read-line in
+    let got = c .before .before .before .before .before .before .before .got .given in
+    let told = c .enum-told2 .given in
+    let step = c .before .before .before .before .frame-step in
+    λ s t.
+    rw (told .1)
+    (ran-refused (ran-joined (c .before .before .before .before .before .before .before .before .before .before .before .before .before .before .before .before .before .loop .inv) row) _ _
+    (line-refused (a .room) (now (a .text)) (c .before .before .before .before .before .before .before .before .before .before .before .ran .given .0 .0) (one .result) (one .ensures .0) _ _ (got .1) _ _ _ (step .last .0) (λ s t. rw (told .1) at (step .ensures s t))) s t)
+
+loop-less : tie.Need-loop-less Inv-loop μ-loop
+loop-less c =
+    let row = rw (c .before .before .before .before .before .before .before .before .before .before .before .before .ran .given .1) at (c .before .before .before .before .before .before .before .before .before .before .before .before .before .before .before .before .run-resolves .ensures) in
+    let ahead = rw (c .before .before .before .before .before .before .before .before .got .given .1) at (c .before .before .before .before .before .before .before .before .before .before .read-line .ensures .1) in
+    omega (arith, row .1, ahead .1, ahead .0 .at)
+
+loop-again : tie.Need-loop-again Inv-loop μ-loop
+loop-again c =
+    let a = c .before .before .before .before .before .before .before .before .before .before .before .before .before .before .before .before .before .before .before .before .before .args in
+    let row = (rw (c .before .before .before .before .before .before .before .before .before .before .before .before .ran .given .1) at (c .before .before .before .before .before .before .before .before .before .before .before .before .before .before .before .before .run-resolves .ensures)) .0 in
+    let one = c .before .before .before .before .before .before .before .before .before .before .read-line in
+    let got = c .before .before .before .before .before .before .before .before .got .given in
+    let known = c .before .stepped .given in
     let step = c .before .before .before .before .before .frame-step in
-    ran-refused (l .inv) _ _ (line-refused (a .room) (now (a .text)) (l .c) f next (known .0) (l .store) (l .p) _ (step .last .0) (λ s t. rw (c .before .stepped2 .given .1) at (step .ensures s t)))
+    let e : length (step .last .0) ≡ length (c .before .before .before .before .before .before .before .before .before .before .before .before .before .before .before .before .run-resolves .last .1 .1 .0) = search needs in
+    ran-joined (ran-joined (c .before .before .before .before .before .before .before .before .before .before .before .before .before .before .before .before .before .before .loop .inv) row)
+    (ran-line (a .room) (now (a .text)) (c .before .before .before .before .before .before .before .before .before .before .before .before .ran .given .0 .0) (one .result) (one .ensures .0) _ _ (got .1) _ _ (step .last .0) _ ((rw (got .1) at (one .ensures .1)) .0) (row .within) e (λ s t. rw (known .1) at (step .ensures s t)))
 
 pub replay-spec : {M : Type 1} → statement M
 replay-spec =
@@ -119,18 +129,21 @@ replay-spec =
     Inv-loop
     μ-loop
     loop-holds
-    frame-at-requires
-    enum-known-look
+    run-resolves-requires
+    enum-known-ran
     enum-told
-    unframed-requires
-    ended-requires
+    stopped-requires
     same-length
     returns
+    read-line-requires
+    enum-known-got
+    ended-requires
+    same-length-2
+    returns-2
     frame-step-requires
     enum-known-stepped
-    add-t18
+    enum-told-2
+    same-length-3
+    returns-3
     loop-less
-    loop-again
-    enum-known-stepped-2
-    same-length-2
-    returns-2)
+    loop-again)

@@ -1,14 +1,15 @@
 -- The invariant: of the lines asked for i are read (`LoopLaws`); the measure is how many are left. Each return is the definition's own case
 -- (`LineLaws`) at the line that was looked at.
 use Prim.Native.Nat.{_+_, _-_, _≤_, _/_}
-use mathlib.Core.Path.{_≡_}
+use mathlib.Core.Path.{_≡_, sym}
 use native.Mathlib.Nat.{add-zero}
 use native.Mathlib.Omega.{arith}
 use denote.Ref.{now}
 use borrow.Author.Tests.{lt-ltb, le-ltb}
-use Rattle.frame.proofs.KindLaws.{look-framed, look-unframed}
+use Rattle.frame.proofs.KindLaws.{sought-framed, not-found}
+use Rattle.model.specs.Lists.{isGate}
 use Rattle.netlist.specs.Says.{cursor as from-place, from, GatesRead}
-use Rattle.netlist.proofs.DueLaws.{due-missing, gate-due}
+use Rattle.netlist.proofs.DueLaws.{due-unsought, gate-due}
 use Rattle.netlist.proofs.LineLaws.{not-gate, gate-other, gate-over, gate-read}
 use Rattle.netlist.proofs.LoopLaws.{gates-none, gates-refused, gates-more}
 use borrow.Author.Needs.{needs}
@@ -16,8 +17,8 @@ use Rattle.netlist.proofs.lines.read_gates.Statement.{statement}
 use Rattle.netlist.proofs.lines.read_gates.Tie as tie
 use Rattle.netlist.proofs.lines.read_gates.Reads as reads
 use Rattle.netlist.proofs.lines.read_gates.Lts as lts
-use Rattle.frame.proofs.kinds.frame_at.Reads as frame-at-reads
-use Rattle.frame.proofs.unframed.Reads as unframed-reads
+use Rattle.frame.proofs.kinds.gate_line.Reads as gate-line-reads
+use Rattle.frame.proofs.read_line.Reads as read-line-reads
 use Rattle.literal.proofs.Literal.of.Reads as of-reads
 use Rattle.literal.proofs.Literal.variable.Reads as variable-reads
 use Rattle.netlist.proofs.lines.missing.Reads as missing-reads
@@ -36,8 +37,8 @@ loop-holds c =
 add-line : tie.Need-add-line Inv-loop μ-loop
 add-line c = search needs
 
-frame-at-requires : tie.Need-frame-at-requires Inv-loop μ-loop
-frame-at-requires c κs = c .before .before .loop .inv .1 .inside .at
+gate-line-requires : tie.Need-gate-line-requires Inv-loop μ-loop
+gate-line-requires c κs = c .before .before .loop .inv .1 .inside .at
 
 enum-known-look : tie.Need-enum-known-look Inv-loop μ-loop
 enum-known-look c = search needs
@@ -45,8 +46,8 @@ enum-known-look c = search needs
 enum-told : tie.Need-enum-told Inv-loop μ-loop
 enum-told c = search needs
 
-unframed-requires : tie.Need-unframed-requires Inv-loop μ-loop
-unframed-requires c κs = c .before .before .before .before .before .loop .inv .1 .inside
+read-line-requires : tie.Need-read-line-requires Inv-loop μ-loop
+read-line-requires c κs = c .before .before .before .before .before .loop .inv .1 .inside
 
 missing-requires : tie.Need-missing-requires Inv-loop μ-loop
 missing-requires c κs = search needs
@@ -56,11 +57,12 @@ returns c =
     let a = c .before .before .before .before .before .before .before .before .before .args in
     let l = c .before .before .before .before .before .before .before .loop in
     let here = from-place (l .at) (a .cursor .line + l .i) in
-    let look = c .before .before .before .before .frame-at in
-    let u = look-unframed (now (a .text)) here (look .ensures) (c .before .before .enum-told .given .1) in
-    let none = c .before .unframed in
+    let look = c .before .before .before .before .gate-line in
+    let other = rw (c .before .before .enum-told .given .1) at (look .ensures) in
+    let got = c .before .read-line in
     gates-refused (now (a .text)) (a .cursor) (a .first) (a .count) (l .i) here (l .inv .1) (omega arith) _
-    (λ k m n s. rw (c .missing .ensures) (due-missing (gate-due k m n (here .line)) (from (now (a .text)) here) (now (a .text)) (none .result) (none .ensures .0 u) (none .ensures .1)))
+    (λ k m n s. rw (c .missing .ensures) (due-unsought (gate-due k m n (here .line)) (from (now (a .text)) here) (now (a .text)) (got .result) (got .ensures .0)
+    (λ f next is. not-found isGate (now (a .text)) (l .at) (here .line) (l .inv .1 .inside .at) other (sym (rw is at (got .ensures .0))))))
 
 enum-known-frame : tie.Need-enum-known-frame Inv-loop μ-loop
 enum-known-frame c = search needs
@@ -70,9 +72,9 @@ returns-2 c =
     let a = c .before .before .before .before .before .before .before .before .before .args in
     let l = c .before .before .before .before .before .before .before .loop in
     let here = from-place (l .at) (a .cursor .line + l .i) in
-    let look = c .before .before .before .before .frame-at in
+    let look = c .before .before .before .before .gate-line in
     let is = c .before .before .look .given in
-    let f = look-framed (now (a .text)) here (look .ensures) (l .inv .1 .inside .line) (is .1) in
+    let f = sought-framed isGate (now (a .text)) here (look .ensures) (l .inv .1 .inside .line) (is .1) in
     gates-refused (now (a .text)) (a .cursor) (a .first) (a .count) (l .i) here (l .inv .1) (omega arith) _
     (λ k m n s. gate-other (now (a .text)) here (is .0 .0) (from-place (is .0 .1 .0) (here .line + 1)) (f .0) (not-gate (is .0 .0) (c .match2 .keys2)) k m n)
 
@@ -93,9 +95,9 @@ returns-3 c =
     let a = c .before .before .before .before .before .before .before .before .before .before .before .before .before .before .args in
     let l = c .before .before .before .before .before .before .before .before .before .before .before .before .loop in
     let here = from-place (l .at) (a .cursor .line + l .i) in
-    let look = c .before .before .before .before .before .before .before .before .before .frame-at in
+    let look = c .before .before .before .before .before .before .before .before .before .gate-line in
     let is = c .before .before .before .before .before .before .before .look .given in
-    let f = look-framed (now (a .text)) here (look .ensures) (l .inv .1 .inside .line) (is .1) in
+    let f = sought-framed isGate (now (a .text)) here (look .ensures) (l .inv .1 .inside .line) (is .1) in
     let gate = c .before .before .before .before .frame .given in
     gates-refused (now (a .text)) (a .cursor) (a .first) (a .count) (l .i) here (l .inv .1) (omega arith) _
     (gate-over (now (a .text)) here (is .0 .0) (from-place (is .0 .1 .0) (here .line + 1)) (f .0) _ _ _ (gate .1) (a .first + l .i) (rw (le-ltb (gate .0 .1 .0 / 2) (a .first + l .i) (omega (arith, c .before .variable .ensures, c .before .before .of .ensures)))))
@@ -117,9 +119,9 @@ returns-4 c =
     let a = c .before .before .before .before .before .before .before .before .before .before .before .before .before .before .before .before .before .args in
     let l = c .before .before .before .before .before .before .before .before .before .before .before .before .before .before .before .loop in
     let here = from-place (l .at) (a .cursor .line + l .i) in
-    let look = c .before .before .before .before .before .before .before .before .before .before .before .before .frame-at in
+    let look = c .before .before .before .before .before .before .before .before .before .before .before .before .gate-line in
     let is = c .before .before .before .before .before .before .before .before .before .before .look .given in
-    let f = look-framed (now (a .text)) here (look .ensures) (l .inv .1 .inside .line) (is .1) in
+    let f = sought-framed isGate (now (a .text)) here (look .ensures) (l .inv .1 .inside .line) (is .1) in
     let gate = c .before .before .before .before .before .before .before .frame .given in
     gates-refused (now (a .text)) (a .cursor) (a .first) (a .count) (l .i) here (l .inv .1) (omega arith) _
     (gate-over (now (a .text)) here (is .0 .0) (from-place (is .0 .1 .0) (here .line + 1)) (f .0) _ _ _ (gate .1) (a .first + l .i) (rw (lt-ltb (gate .0 .1 .0 / 2) (a .first + l .i) (omega (arith, c .before .before .before .before .variable .ensures, c .before .before .before .before .before .of .ensures)), le-ltb (gate .0 .1 .1 .0 / 2) (a .first + l .i) (omega (arith, c .before .variable2 .ensures, c .before .before .of2 .ensures)))))
@@ -135,9 +137,9 @@ loop-again c =
     let a = c .before .before .before .before .before .before .before .before .before .before .before .before .before .before .before .before .before .args in
     let l = c .before .before .before .before .before .before .before .before .before .before .before .before .before .before .before .loop in
     let here = from-place (l .at) (a .cursor .line + l .i) in
-    let look = c .before .before .before .before .before .before .before .before .before .before .before .before .frame-at in
+    let look = c .before .before .before .before .before .before .before .before .before .before .before .before .gate-line in
     let is = c .before .before .before .before .before .before .before .before .before .before .look .given in
-    let f = look-framed (now (a .text)) here (look .ensures) (l .inv .1 .inside .line) (is .1) in
+    let f = sought-framed isGate (now (a .text)) here (look .ensures) (l .inv .1 .inside .line) (is .1) in
     let gate = c .before .before .before .before .before .before .before .frame .given in
     let e : a .cursor .line + l .i + 1 ≡ a .cursor .line + (l .i + 1) = omega arith in (
       omega arith,
@@ -163,10 +165,10 @@ read-gates-spec =
     μ-loop
     loop-holds
     add-line
-    frame-at-requires
+    gate-line-requires
     enum-known-look
     enum-told
-    unframed-requires
+    read-line-requires
     missing-requires
     returns
     enum-known-frame

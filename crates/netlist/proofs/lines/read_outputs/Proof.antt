@@ -1,14 +1,15 @@
 -- The invariant: of the lines asked for i are read (`LoopLaws`); the measure is how many are left. Each return is the definition's own case
 -- (`LineLaws`) at the line that was looked at.
 use Prim.Native.Nat.{_+_, _-_, _≤_, _/_}
-use mathlib.Core.Path.{_≡_}
+use mathlib.Core.Path.{_≡_, sym}
 use native.Mathlib.Nat.{add-zero}
 use native.Mathlib.Omega.{arith}
 use denote.Ref.{now}
 use borrow.Author.Tests.{lt-ltb, le-ltb}
-use Rattle.frame.proofs.KindLaws.{look-framed, look-unframed}
+use Rattle.frame.proofs.KindLaws.{sought-framed, not-found}
+use Rattle.model.specs.Lists.{isOutput}
 use Rattle.netlist.specs.Says.{cursor as from-place, from, OutputsRead}
-use Rattle.netlist.proofs.DueLaws.{due-missing, output-due}
+use Rattle.netlist.proofs.DueLaws.{due-unsought, output-due}
 use Rattle.netlist.proofs.LineLaws.{not-output, output-other, output-over, output-read}
 use Rattle.netlist.proofs.LoopLaws.{outputs-none, outputs-refused, outputs-more}
 use borrow.Author.Needs.{needs}
@@ -16,8 +17,8 @@ use Rattle.netlist.proofs.lines.read_outputs.Statement.{statement}
 use Rattle.netlist.proofs.lines.read_outputs.Tie as tie
 use Rattle.netlist.proofs.lines.read_outputs.Reads as reads
 use Rattle.netlist.proofs.lines.read_outputs.Lts as lts
-use Rattle.frame.proofs.kinds.frame_at.Reads as frame-at-reads
-use Rattle.frame.proofs.unframed.Reads as unframed-reads
+use Rattle.frame.proofs.kinds.output_line.Reads as output-line-reads
+use Rattle.frame.proofs.read_line.Reads as read-line-reads
 use Rattle.literal.proofs.Literal.of.Reads as of-reads
 use Rattle.literal.proofs.Literal.variable.Reads as variable-reads
 use Rattle.netlist.proofs.lines.missing.Reads as missing-reads
@@ -36,8 +37,8 @@ loop-holds c =
 add-line : tie.Need-add-line Inv-loop μ-loop
 add-line c = search needs
 
-frame-at-requires : tie.Need-frame-at-requires Inv-loop μ-loop
-frame-at-requires c κs = c .before .before .loop .inv .1 .inside .at
+output-line-requires : tie.Need-output-line-requires Inv-loop μ-loop
+output-line-requires c κs = c .before .before .loop .inv .1 .inside .at
 
 enum-known-look : tie.Need-enum-known-look Inv-loop μ-loop
 enum-known-look c = search needs
@@ -45,8 +46,8 @@ enum-known-look c = search needs
 enum-told : tie.Need-enum-told Inv-loop μ-loop
 enum-told c = search needs
 
-unframed-requires : tie.Need-unframed-requires Inv-loop μ-loop
-unframed-requires c κs = c .before .before .before .before .before .loop .inv .1 .inside
+read-line-requires : tie.Need-read-line-requires Inv-loop μ-loop
+read-line-requires c κs = c .before .before .before .before .before .loop .inv .1 .inside
 
 missing-requires : tie.Need-missing-requires Inv-loop μ-loop
 missing-requires c κs = search needs
@@ -56,11 +57,12 @@ returns c =
     let a = c .before .before .before .before .before .before .before .before .before .args in
     let l = c .before .before .before .before .before .before .before .loop in
     let here = from-place (l .at) (a .cursor .line + l .i) in
-    let look = c .before .before .before .before .frame-at in
-    let u = look-unframed (now (a .text)) here (look .ensures) (c .before .before .enum-told .given .1) in
-    let none = c .before .unframed in
+    let look = c .before .before .before .before .output-line in
+    let other = rw (c .before .before .enum-told .given .1) at (look .ensures) in
+    let got = c .before .read-line in
     outputs-refused (now (a .text)) (a .cursor) (a .nets) (a .count) (l .i) here (l .inv .1) (omega arith) _
-    (λ k n s. rw (c .missing .ensures) (due-missing (output-due k n (here .line)) (from (now (a .text)) here) (now (a .text)) (none .result) (none .ensures .0 u) (none .ensures .1)))
+    (λ k n s. rw (c .missing .ensures) (due-unsought (output-due k n (here .line)) (from (now (a .text)) here) (now (a .text)) (got .result) (got .ensures .0)
+    (λ f next is. not-found isOutput (now (a .text)) (l .at) (here .line) (l .inv .1 .inside .at) other (sym (rw is at (got .ensures .0))))))
 
 enum-known-frame : tie.Need-enum-known-frame Inv-loop μ-loop
 enum-known-frame c = search needs
@@ -70,9 +72,9 @@ returns-2 c =
     let a = c .before .before .before .before .before .before .before .before .before .args in
     let l = c .before .before .before .before .before .before .before .loop in
     let here = from-place (l .at) (a .cursor .line + l .i) in
-    let look = c .before .before .before .before .frame-at in
+    let look = c .before .before .before .before .output-line in
     let is = c .before .before .look .given in
-    let f = look-framed (now (a .text)) here (look .ensures) (l .inv .1 .inside .line) (is .1) in
+    let f = sought-framed isOutput (now (a .text)) here (look .ensures) (l .inv .1 .inside .line) (is .1) in
     outputs-refused (now (a .text)) (a .cursor) (a .nets) (a .count) (l .i) here (l .inv .1) (omega arith) _
     (λ k n s. output-other (now (a .text)) here (is .0 .0) (from-place (is .0 .1 .0) (here .line + 1)) (f .0) (not-output (is .0 .0) (c .match2 .keys2)) k n)
 
@@ -90,9 +92,9 @@ returns-3 c =
     let a = c .before .before .before .before .before .before .before .before .before .before .before .before .before .before .args in
     let l = c .before .before .before .before .before .before .before .before .before .before .before .before .loop in
     let here = from-place (l .at) (a .cursor .line + l .i) in
-    let look = c .before .before .before .before .before .before .before .before .before .frame-at in
+    let look = c .before .before .before .before .before .before .before .before .before .output-line in
     let is = c .before .before .before .before .before .before .before .look .given in
-    let f = look-framed (now (a .text)) here (look .ensures) (l .inv .1 .inside .line) (is .1) in
+    let f = sought-framed isOutput (now (a .text)) here (look .ensures) (l .inv .1 .inside .line) (is .1) in
     let output = c .before .before .before .before .frame .given in
     outputs-refused (now (a .text)) (a .cursor) (a .nets) (a .count) (l .i) here (l .inv .1) (omega arith) _
     (output-over (now (a .text)) here (is .0 .0) (from-place (is .0 .1 .0) (here .line + 1)) (f .0) _ (output .1) (a .nets) (rw (le-ltb (output .0 .0 / 2) (a .nets) (omega (arith, c .before .variable .ensures, c .before .before .of .ensures)))))
@@ -108,9 +110,9 @@ loop-again c =
     let a = c .before .before .before .before .before .before .before .before .before .before .before .before .before .before .args in
     let l = c .before .before .before .before .before .before .before .before .before .before .before .before .loop in
     let here = from-place (l .at) (a .cursor .line + l .i) in
-    let look = c .before .before .before .before .before .before .before .before .before .frame-at in
+    let look = c .before .before .before .before .before .before .before .before .before .output-line in
     let is = c .before .before .before .before .before .before .before .look .given in
-    let f = look-framed (now (a .text)) here (look .ensures) (l .inv .1 .inside .line) (is .1) in
+    let f = sought-framed isOutput (now (a .text)) here (look .ensures) (l .inv .1 .inside .line) (is .1) in
     let output = c .before .before .before .before .frame .given in
     let e : a .cursor .line + l .i + 1 ≡ a .cursor .line + (l .i + 1) = omega arith in (
       omega arith,
@@ -136,10 +138,10 @@ read-outputs-spec =
     μ-loop
     loop-holds
     add-line
-    frame-at-requires
+    output-line-requires
     enum-known-look
     enum-told
-    unframed-requires
+    read-line-requires
     missing-requires
     returns
     enum-known-frame
