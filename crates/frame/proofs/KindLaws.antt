@@ -175,6 +175,11 @@ module _ (due : ℕ → Bool) (text : List ℕ) (at : ℕ) where
   sought (Is f behind) h = h
   sought Other h = λ kind k d. h
 
+  -- where the kind is there, all is known
+  pub looked : (look : Look) → Sought due text at look → {kind : ℕ} → KindAt text at kind → due kind ≡ true → Looked text at look
+  looked (Is f behind) h k d = h
+  looked Other h {kind} k d = h kind k d
+
 -- a gate's kind is AND's, or else XOR's
 pub and-or-xor : (k : ℕ) → isGate k ≡ true → (k ≡ xorKind → ⊥) → andKind ≡ k
 and-or-xor k e not = go (eqb k andKind) refl
@@ -182,6 +187,14 @@ and-or-xor k e not = go (eqb k andKind) refl
     go : (t : Bool) → eqb k andKind ≡ t → andKind ≡ k
     go true t = sym (eqb-true k andKind t)
     go false t = absurd (true≢false (sym e ∙ rw (t, ne-eqb k xorKind not)))
+
+pub gate-kind-widths : (k : ℕ) → isGate k ≡ true → widths k ≡ twoBytes ∷ twoBytes ∷ []
+unfolding widths
+gate-kind-widths k e = go (eqb k xorKind) refl
+  where
+    go : (t : Bool) → eqb k xorKind ≡ t → widths k ≡ twoBytes ∷ twoBytes ∷ []
+    go true t = rw (eqb-true k xorKind t)
+    go false t = rw (← and-or-xor k e (eqb-false k xorKind t))
 
 pub gate-small : (op : Op) → gateKind op < byteLimit
 gate-small And = omega arith
