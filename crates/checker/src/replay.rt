@@ -2,14 +2,14 @@
 use frame::Cursor;
 use frame::Frame;
 use frame::Line;
-use frame::kinds::Look;
-use frame::kinds::resolve_line;
 use frame::read_line;
 use netlist::Refusal;
 use steps::Progress;
 use steps::Stepped;
 use steps::extend_step;
 use steps::resolve_step;
+use words::read::Look;
+use words::read::look_resolve;
 ghost use mathlib.Core.Path.{_≡_};
 ghost use Rattle.model.specs.Steps as model;
 ghost use Rattle.model.specs.Steps.{State};
@@ -79,7 +79,7 @@ fn run_resolves(text: &[u8], cursor: Cursor, store: &mut [u16], start: Progress,
     let mut p = start;
     loop {
         let line = c.line;
-        let look = resolve_line(text, c.at);
+        let look = look_resolve(text, c.at);
         let Look::Is(frame, behind) = look else {
             return Ran::At(c, p);
         };

@@ -3,24 +3,19 @@
 use Prim.Native.Nat.{ℕ, zero, suc, _+_, _-_, _<_, _≤_}
 use mathlib.Core.Path.{_≡_, refl, sym, ap, _∙_}
 use mathlib.Core.List.{List, [], _∷_}
-use mathlib.Core.Bool.{Bool, true, false, _&&_, cond, true≢false}
+use mathlib.Core.Bool.{Bool, true, false, cond}
 use native.Mathlib.Omega.{arith}
-use lib.ListN.{length, take, drop, getD, length-drop, length-map}
+use lib.ListN.{length, take, drop, getD, length-drop}
 use lib.Seq.{length-take-le, drop-drop}
 use lib.Dec.{ltb, eqb}
-use borrow.Author.Tests.{ltb-true, ltb-false, eqb-true, eqb-false, ne-eqb}
-use Rattle.model.specs.Answers.{Answer}
-use Rattle.model.specs.Answers.Answer.{ok, refused}
-use Rattle.laws.specs.Bools.{both}
-use Rattle.laws.specs.Answers.{ok-injective, refused-not-ok, guard-ok}
+use borrow.Author.Tests.{ltb-true, ltb-false, eqb-true, eqb-false}
+use Rattle.model.specs.Answers.Answer.{refused}
 use Rattle.model.specs.Lines as model-line
 use Rattle.model.specs.Lines.{isDigit, lineFeed, lines}
 use Rattle.model.specs.Frames as model
-use Rattle.model.specs.Lists.{isGate}
-use Rattle.model.specs.Frames.{andKind, xorKind, widths, isKind, total, number, oneByte, twoBytes, decode, decodeAs}
+use Rattle.model.specs.Frames.{widths, isKind, total, number, oneByte, twoBytes, decode}
 use Rattle.digits.specs.Digits.{valueOf, values, run, numberAt, byteLimit, Spelt}
-use Rattle.digits.proofs.DigitLaws.{run-more, run-stop}
-use Rattle.digits.proofs.ReadLaws.{in-run}
+use Rattle.digits.proofs.DigitLaws.{run-stop}
 use Rattle.frame.specs.declared.Op.{Op}
 use Rattle.frame.specs.declared.Op.the-variants.{And, Xor}
 use Rattle.frame.specs.declared.Cursor.{Cursor}
@@ -29,9 +24,9 @@ use Rattle.frame.specs.declared.Line.{Line}
 use Rattle.frame.specs.declared.Line.the-variants.{Read, End, Refused}
 use Rattle.frame.specs.declared.kinds.Look.{Look}
 use Rattle.frame.specs.declared.kinds.Look.the-variants.{Is, Other}
-use Rattle.frame.specs.Frames.{gateKind, extendKind, frameOf, first, firstIn, Inside, Ahead, NoFrame}
+use Rattle.frame.specs.Frames.{gateKind, extendKind, frameOf, first, Inside, Ahead, NoFrame}
 use Rattle.frame.specs.Frames.First.{found}
-use Rattle.frame.specs.Kinds.{KindAt, Feeds, Unframed, Looked, Sought}
+use Rattle.frame.specs.Kinds.{KindAt, Feeds, Unframed, Looked}
 use Rattle.frame.proofs.DecodeLaws.{fieldsAt, whole, wrong-length, no-kind, short}
 use Rattle.frame.proofs.FirstLaws.{none-found, found-fault}
 use Rattle.frame.proofs.LineLaws.{read-end, read-open, read-other, read-whole, read-unframed}
@@ -157,49 +152,6 @@ module _ (text : List ℕ) (at r : ℕ) (room : at + oneByte ≤ length text) (s
 pub unframed-short : (text : List ℕ) (at : ℕ) → length text < at + oneByte → Unframed text at
 unframed-short text at r n line e h f = short (take n (drop at text)) line (omega (arith, part-long text at n h))
 
--- ---- where a kind is due
-
-module _ (due : ℕ → Bool) (text : List ℕ) (at : ℕ) where
-  pub sought-short : length text < at + oneByte → Sought due text at Other
-  sought-short h kind k d = absurd (omega (arith, k .room))
-
-  -- another kind, or no digits
-  pub not-sought : {r : ℕ} → Spelt text at oneByte byteLimit r → due r ≡ false → Sought due text at Other
-  not-sought {r} s none kind k d = absurd (go (ltb r byteLimit) refl)
-    where
-      go : (t : Bool) → ltb r byteLimit ≡ t → ⊥
-      go true t = let e : kind ≡ r = k .spelt ∙ sym (s .number (ltb-true r byteLimit t)) in true≢false (sym d ∙ ap due e ∙ none)
-      go false t = omega (arith, k .goes, s .stops (ltb-false r byteLimit t))
-
-  pub sought : (look : Look) → Looked text at look → Sought due text at look
-  sought (Is f behind) h = h
-  sought Other h = λ kind k d. h
-
-  -- where the kind is there, all is known
-  pub looked : (look : Look) → Sought due text at look → {kind : ℕ} → KindAt text at kind → due kind ≡ true → Looked text at look
-  looked (Is f behind) h k d = h
-  looked Other h {kind} k d = h kind k d
-
--- a gate's kind is AND's, or else XOR's
-pub and-or-xor : (k : ℕ) → isGate k ≡ true → (k ≡ xorKind → ⊥) → andKind ≡ k
-and-or-xor k e not = go (eqb k andKind) refl
-  where
-    go : (t : Bool) → eqb k andKind ≡ t → andKind ≡ k
-    go true t = sym (eqb-true k andKind t)
-    go false t = absurd (true≢false (sym e ∙ rw (t, ne-eqb k xorKind not)))
-
-pub gate-kind-widths : (k : ℕ) → isGate k ≡ true → widths k ≡ twoBytes ∷ twoBytes ∷ []
-unfolding widths
-gate-kind-widths k e = go (eqb k xorKind) refl
-  where
-    go : (t : Bool) → eqb k xorKind ≡ t → widths k ≡ twoBytes ∷ twoBytes ∷ []
-    go true t = rw (eqb-true k xorKind t)
-    go false t = rw (← and-or-xor k e (eqb-false k xorKind t))
-
-pub gate-small : (op : Op) → gateKind op < byteLimit
-gate-small And = omega arith
-gate-small Xor = omega arith
-
 -- ---- the line at a cursor
 
 module _ (text : List ℕ) (c : Cursor) {look : Look} (h : Looked text (c .at) look) where
@@ -215,13 +167,6 @@ module _ (text : List ℕ) (c : Cursor) {look : Look} (h : Looked text (c .at) l
   pub look-unframed : look ≡ Other → Unframed text (c .at)
   look-unframed e = rw e at h
 
--- the frame of a line that is due there
-pub sought-framed : (due : ℕ → Bool) (text : List ℕ) (c : Cursor) {look : Look} → Sought due text (c .at) look → c .line ≤ suc (c .at) → {f : Frame} {behind : ℕ} → look ≡ Is f behind
-    → (found (frameOf f) (lines (drop behind text)) (c .line + 1) ≡ first (lines (drop (c .at) text)) (c .line)) × (Inside text (record { at = behind; line = c .line + 1 }) × (c .at < behind))
-sought-framed due text c {look} h i {f} {behind} e =
-    let k : Sought due text (c .at) (Is f behind) = rw e at h in
-    look-framed text c {look = Is f behind} k i refl
-
 run-length : (s : List ℕ) → run s ≤ length s
 run-length [] = omega arith
 run-length (b ∷ s) = go (isDigit b) (run-length s)
@@ -230,81 +175,22 @@ run-length (b ∷ s) = go (isDigit b) (run-length s)
     go true h = omega arith
     go false h = omega arith
 
--- two digits of a run, and the rest of it
-run-two : (text : List ℕ) (at : ℕ) → 2 ≤ run (drop at text) → run (drop at text) ≡ 2 + run (drop (at + 2) text)
-run-two text at h =
-    let l = run-length (drop at text) in
-    let n = length-drop at text in
-    let z : at + 0 ≡ at = omega arith in
-    let t : at + 1 + 1 ≡ at + 2 = omega arith in
-    let a = run-more text at (omega arith) (rw z at (in-run text at 0 (omega arith))) in
-    let b = rw t at (run-more text (at + 1) (omega arith) (in-run text at 1 (omega arith))) in
-    omega arith
-
--- a line that is found: its digits run to LF and are decoded
-record Whole (text : List ℕ) (at line : ℕ) (f : model.Frame) : Type 0 where
-  inside : at + run (drop at text) < length text
-  feed : getD text (at + run (drop at text)) 0 ≡ lineFeed
-  decoded : decode (values (take (run (drop at text)) (drop at text))) line ≡ ok f
-
-found-whole : (text : List ℕ) (at line : ℕ) {f : model.Frame} {ls : List model-line.Line} {next : ℕ} → at ≤ length text → first (lines (drop at text)) line ≡ found f ls next
-    → Whole text at line f
-found-whole text at line {f} {ls} {next} h e = go (ltb at (length text)) (eqb (at + run (drop at text)) (length text)) (eqb (getD text (at + run (drop at text)) 0) lineFeed) refl refl refl
+-- then no frame is found there
+pub none-found-at : (text : List ℕ) (at line : ℕ) {f : model.Frame} {ls : List model-line.Line} {next : ℕ} → at ≤ length text → Unframed text at
+    → first (lines (drop at text)) line ≡ found f ls next → ⊥
+none-found-at text at line {f} {ls} {next} h u e = go (ltb at (length text)) (eqb (at + run (drop at text)) (length text)) (eqb (getD text (at + run (drop at text)) 0) lineFeed) refl refl refl
   where
-    in-answer : (a : Answer model.Frame) (ms : List model-line.Line) (i : ℕ) → firstIn a ms i ≡ found f ls next → a ≡ ok f
-    in-answer (ok g) ms i e = cc
-    in-answer (refused number place) ms i e = absurd (found-fault (sym e))
-
-    go : (s t v : Bool) → ltb at (length text) ≡ s → eqb (at + run (drop at text)) (length text) ≡ t → eqb (getD text (at + run (drop at text)) 0) lineFeed ≡ v → Whole text at line f
-    go false t v p q r = absurd (none-found (sym (read-end text at line _ refl (ltb-false at (length text) p)) ∙ e))
-    go true true v p q r = absurd (found-fault (sym e ∙ read-open text at line _ refl (ltb-true at (length text) p) (eqb-true _ _ q)))
+    go : (s t v : Bool) → ltb at (length text) ≡ s → eqb (at + run (drop at text)) (length text) ≡ t → eqb (getD text (at + run (drop at text)) 0) lineFeed ≡ v → ⊥
+    go false t v p q r = none-found (sym (read-end text at line _ refl (ltb-false at (length text) p)) ∙ e)
+    go true true v p q r = found-fault (sym e ∙ read-open text at line _ refl (ltb-true at (length text) p) (eqb-true _ _ q))
     go true false v p q r =
         let l : run (drop at text) ≤ length text - at = rw length-drop at (run-length (drop at text)) in
         let m : at + run (drop at text) < length text = omega (arith, eqb-false (at + run (drop at text)) (length text) q, ltb-true at (length text) p) in
-        feeds v r m
+        feed v r m
       where
-        feeds : (v : Bool) → eqb (getD text (at + run (drop at text)) 0) lineFeed ≡ v → at + run (drop at text) < length text → Whole text at line f
-        feeds true r m =
-            let l = eqb-true _ _ r in
-            record { inside = m; feed = l; decoded = in-answer _ _ _ (sym (read-whole text at line _ refl m l) ∙ e) }
-        feeds false r m = absurd (found-fault (sym e ∙ read-other text at line _ refl m (eqb-false _ _ r)))
-
--- no frame is found where there is none
-pub none-found-at : (text : List ℕ) (at line : ℕ) {f : model.Frame} {ls : List model-line.Line} {next : ℕ} → at ≤ length text → Unframed text at
-    → first (lines (drop at text)) line ≡ found f ls next → ⊥
-none-found-at text at line h u e =
-    let w = found-whole text at line h e in
-    refused-not-ok (u _ line refl (w .inside) (w .feed) ∙ w .decoded)
-
--- a frame that is found has the kind that the first two digits spell
-found-kind : (text : List ℕ) (at line : ℕ) {f : model.Frame} {ls : List model-line.Line} {next : ℕ} → at ≤ length text → first (lines (drop at text)) line ≡ found f ls next
-    → KindAt text at (f .kind)
-unfolding decode decodeAs numberAt
-found-kind text at line {f} h e =
-    let w = found-whole text at line h e in
-    let n : ℕ = run (drop at text) in
-    let ds : List ℕ = values (take n (drop at text)) in
-    let kind : ℕ = number 0 (take oneByte ds) in
-    let d = guard-ok (isKind (widths kind) && eqb (length ds) (oneByte + total (widths kind))) _ _ _ (w .decoded) in
-    let long = eqb-true (length ds) (oneByte + total (widths kind)) (both (isKind (widths kind)) _ (d .0) .1) in
-    let many = part-long text at n (w .inside) in
-    let two : oneByte ≤ n = omega (arith, long, many, length-map (take n (drop at text)) valueOf) in
-    let z : at + 0 ≡ at = omega arith in
-    let k : f .kind ≡ numberAt (take n (drop at text)) 0 oneByte = ap (λ (g : model.Frame). g .kind) (sym (ok-injective (d .1))) in
-    record {
-      room = omega (arith, w .inside);
-      goes = run-two text at two;
-      spelt = k ∙ rw z at (part-number text at n 0 oneByte two);
-    }
-
--- so where a kind is due and its line was not found, no frame of that kind is
-pub not-found : (due : ℕ → Bool) (text : List ℕ) (at line : ℕ) {f : model.Frame} {ls : List model-line.Line} {next : ℕ} → at ≤ length text → Sought due text at Other
-    → first (lines (drop at text)) line ≡ found f ls next → due (f .kind) ≡ false
-not-found due text at line {f} h s e = go (due (f .kind)) refl
-  where
-    go : (t : Bool) → due (f .kind) ≡ t → due (f .kind) ≡ false
-    go true t = absurd (none-found-at text at line h (s (f .kind) (found-kind text at line h e) t) e)
-    go false t = t
+        feed : (v : Bool) → eqb (getD text (at + run (drop at text)) 0) lineFeed ≡ v → at + run (drop at text) < length text → ⊥
+        feed true r m = found-fault (sym e ∙ sym (read-unframed text at line _ refl m (eqb-true _ _ r) u))
+        feed false r m = found-fault (sym e ∙ read-other text at line _ refl m (eqb-false _ _ r))
 
 -- where none was read the cursor is not farther on
 pub nowhere : (text : List ℕ) (at : ℕ) (got : Line) → NoFrame got → Ahead text at got

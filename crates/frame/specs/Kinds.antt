@@ -1,13 +1,12 @@
 -- What looking at a line says: its kind, where it ends, and the frame that it has or that it has none.
-use Prim.Native.Nat.{ℕ, suc, _+_, _/_, _%_, _<_, _≤_}
+use Prim.Native.Nat.{ℕ, suc, _+_, _<_, _≤_}
 use mathlib.Core.Path.{_≡_}
 use mathlib.Core.Bool.{Bool, true, false}
-use mathlib.Core.List.{List, [], _∷_}
-use lib.Dec.{eqb}
+use mathlib.Core.List.{List}
 use lib.ListN.{length, take, drop, getD}
 use Rattle.model.specs.Answers.Answer.{refused}
 use Rattle.model.specs.Lines.{lineFeed, lines}
-use Rattle.model.specs.Frames.{oneByte, twoBytes, widths, resolveKind, decode}
+use Rattle.model.specs.Frames.{oneByte, decode}
 use Rattle.digits.specs.Digits.{values, run, numberAt}
 use Rattle.frame.specs.Frames.{first, frameOf}
 use Rattle.frame.specs.Frames.First.{found}
@@ -30,32 +29,7 @@ pub record Feeds (text : List ℕ) (at bytes : ℕ) (r : Bool) : Type 0 where
 abbrev pub Unframed : List ℕ → ℕ → Type 0
 Unframed text at = (n line : ℕ) → n ≡ run (drop at text) → at + n < length text → getD text (at + n) 0 ≡ lineFeed → refused 3 line ≡ decode (values (take n (drop at text))) line
 
--- Words behind a kind that has just them: their number, the first word lowest, where the line is theirs; else a number from the limit on, and the
--- line has no frame.
-abbrev pub wordsLimit : ℕ
-wordsLimit = 281474976710656
-
-pub record TwoWords (text : List ℕ) (at r : ℕ) : Type 0 where
-  pub some : r < wordsLimit → (kind : ℕ) → KindAt text at kind → widths kind ≡ twoBytes ∷ twoBytes ∷ []
-      → (at + 11 ≤ length text) × ((line : ℕ) → found (record { kind = kind; fields = r % 65536 ∷ r / 65536 ∷ [] }) (lines (drop (at + 11) text)) (suc line) ≡ first (lines (drop at text)) line)
-  pub none : wordsLimit ≤ r → (kind : ℕ) → KindAt text at kind → widths kind ≡ twoBytes ∷ twoBytes ∷ [] → Unframed text at
-  pub small : r < wordsLimit → r / 65536 < 65536
-
-pub record ThreeWords (text : List ℕ) (at r : ℕ) : Type 0 where
-  pub some : r < wordsLimit → (kind : ℕ) → KindAt text at kind → widths kind ≡ twoBytes ∷ twoBytes ∷ twoBytes ∷ []
-      → (at + 15 ≤ length text)
-      × ((line : ℕ) → found (record { kind = kind; fields = r % 65536 ∷ r / 65536 % 65536 ∷ r / 4294967296 ∷ [] }) (lines (drop (at + 15) text)) (suc line) ≡ first (lines (drop at text)) line)
-  pub none : wordsLimit ≤ r → (kind : ℕ) → KindAt text at kind → widths kind ≡ twoBytes ∷ twoBytes ∷ twoBytes ∷ [] → Unframed text at
-
 -- the line at a place has this frame and ends before the place behind it, whatever its number; or it has none
 abbrev pub Looked : List ℕ → ℕ → Look → Type 0
 Looked text at (Is f behind) = (at < behind) × (behind ≤ length text) × ((line : ℕ) → found (frameOf f) (lines (drop behind text)) (suc line) ≡ first (lines (drop at text)) line)
 Looked text at Other = Unframed text at
-
--- the line at a place where a kind is due: it has this frame; or, if its kind is due, it has none
-abbrev pub Sought : (ℕ → Bool) → List ℕ → ℕ → Look → Type 0
-Sought due text at (Is f behind) = Looked text at (Is f behind)
-Sought due text at Other = (kind : ℕ) → KindAt text at kind → due kind ≡ true → Unframed text at
-
-abbrev pub isResolve : ℕ → Bool
-isResolve kind = eqb kind resolveKind

@@ -8,22 +8,11 @@ use digits::read::NO_WORD;
 use digits::read::byte_at;
 use digits::read::triple_at;
 use digits::read::word_at;
-ghost use mathlib.Core.Path.{_≡_};
 ghost use Prim.Native.Nat.{_<_, _≤_};
 ghost use lib.ListN.{length};
-ghost use mathlib.Core.Bool.{true};
-ghost use Rattle.model.specs.Lists.{isGate, isOutput};
-ghost use Rattle.model.specs.Frames.{headerKind, outputKind, reportKind};
+ghost use Rattle.model.specs.Frames.{headerKind, outputKind, resolveKind, reportKind};
 ghost use Rattle.frame.specs.Frames.{gateKind, extendKind};
-ghost use Rattle.frame.specs.Kinds.{KindAt, Feeds, TwoWords, ThreeWords, Looked, Sought, isResolve};
-
-// The kinds that are sought by themselves.
-const OUTPUT: u32 = 0x04;
-
-const RESOLVE: u32 = 0x11;
-
-// Above each number that words make.
-const NO_WORDS: u64 = 0x1000000000000;
+ghost use Rattle.frame.specs.Kinds.{KindAt, Feeds, Looked};
 
 // The bytes of each line, its LF counted.
 pub const HEADER_BYTES: usize = 11;
@@ -55,48 +44,6 @@ fn feeds(text: &[u8], at: usize, bytes: usize) -> bool
     text[at + bytes - 1] == 10
 }
 
-// Two words behind a kind, the first lowest; or NO_WORDS. A number comes back in a register, where an enum would come back in memory.
-fn two_words(text: &[u8], at: usize) -> u64
-    requires { ⌜ at ≤ length (now text) ⌝ }
-    ensures { λ r. ⌜ TwoWords (now (text .entry)) at r ⌝ }
-{
-    if !feeds(text, at, GATE_BYTES) {
-        return NO_WORDS;
-    }
-    let first = word_at(text, at + 2);
-    if NO_WORD <= first {
-        return NO_WORDS;
-    }
-    let second = word_at(text, at + 6);
-    if NO_WORD <= second {
-        return NO_WORDS;
-    }
-    (first as u64) + 65536 * (second as u64)
-}
-
-// Three words behind a kind.
-fn three_words(text: &[u8], at: usize) -> u64
-    requires { ⌜ at ≤ length (now text) ⌝ }
-    ensures { λ r. ⌜ ThreeWords (now (text .entry)) at r ⌝ }
-{
-    if !feeds(text, at, RESOLVE_BYTES) {
-        return NO_WORDS;
-    }
-    let first = word_at(text, at + 2);
-    if NO_WORD <= first {
-        return NO_WORDS;
-    }
-    let second = word_at(text, at + 6);
-    if NO_WORD <= second {
-        return NO_WORDS;
-    }
-    let third = word_at(text, at + 10);
-    if NO_WORD <= third {
-        return NO_WORDS;
-    }
-    (first as u64) + 65536 * (second as u64) + 4294967296 * (third as u64)
-}
-
 fn header_at(text: &[u8], at: usize) -> Look
     requires { ⌜ KindAt (now text) at headerKind ⌝ }
     ensures { λ r. ⌜ Looked (now (text .entry)) at r ⌝ }
@@ -126,6 +73,31 @@ fn header_at(text: &[u8], at: usize) -> Look
     )
 }
 
+fn gate_at(text: &[u8], at: usize, op: Op) -> Look
+    requires { ⌜ KindAt (now text) at (gateKind op) ⌝ }
+    ensures { λ r. ⌜ Looked (now (text .entry)) at r ⌝ }
+{
+    if !feeds(text, at, GATE_BYTES) {
+        return Look::Other;
+    }
+    let x = word_at(text, at + 2);
+    if NO_WORD <= x {
+        return Look::Other;
+    }
+    let y = word_at(text, at + 6);
+    if NO_WORD <= y {
+        return Look::Other;
+    }
+    Look::Is(
+        Frame::Gate {
+            op,
+            x: x as u16,
+            y: y as u16,
+        },
+        at + GATE_BYTES,
+    )
+}
+
 fn output_at(text: &[u8], at: usize) -> Look
     requires { ⌜ KindAt (now text) at outputKind ⌝ }
     ensures { λ r. ⌜ Looked (now (text .entry)) at r ⌝ }
@@ -142,6 +114,60 @@ fn output_at(text: &[u8], at: usize) -> Look
             literal: literal as u16,
         },
         at + OUTPUT_BYTES,
+    )
+}
+
+fn resolve_at(text: &[u8], at: usize) -> Look
+    requires { ⌜ KindAt (now text) at resolveKind ⌝ }
+    ensures { λ r. ⌜ Looked (now (text .entry)) at r ⌝ }
+{
+    if !feeds(text, at, RESOLVE_BYTES) {
+        return Look::Other;
+    }
+    let first = word_at(text, at + 2);
+    if NO_WORD <= first {
+        return Look::Other;
+    }
+    let second = word_at(text, at + 6);
+    if NO_WORD <= second {
+        return Look::Other;
+    }
+    let variable = word_at(text, at + 10);
+    if NO_WORD <= variable {
+        return Look::Other;
+    }
+    Look::Is(
+        Frame::Resolve {
+            first: first as u16,
+            second: second as u16,
+            variable: variable as u16,
+        },
+        at + RESOLVE_BYTES,
+    )
+}
+
+fn extend_at(text: &[u8], at: usize, op: Op) -> Look
+    requires { ⌜ KindAt (now text) at (extendKind op) ⌝ }
+    ensures { λ r. ⌜ Looked (now (text .entry)) at r ⌝ }
+{
+    if !feeds(text, at, EXTEND_BYTES) {
+        return Look::Other;
+    }
+    let x = word_at(text, at + 2);
+    if NO_WORD <= x {
+        return Look::Other;
+    }
+    let y = word_at(text, at + 6);
+    if NO_WORD <= y {
+        return Look::Other;
+    }
+    Look::Is(
+        Frame::Extend {
+            op,
+            x: x as u16,
+            y: y as u16,
+        },
+        at + EXTEND_BYTES,
     )
 }
 
@@ -179,107 +205,6 @@ fn report_at(text: &[u8], at: usize) -> Look
     )
 }
 
-// A gate's kind.
-fn is_gate(kind: u32) -> bool
-    ensures { λ r. ⌜ r ≡ isGate kind ⌝ }
-{
-    match kind {
-        0x02 => true,
-        0x03 => true,
-        _ => false,
-    }
-}
-
-// The operation of a gate's kind.
-fn gate_op(kind: u32) -> Op
-    ensures { λ r. ⌜ (isGate kind ≡ true → gateKind r ≡ kind) ⌝ }
-{
-    match kind {
-        0x03 => Op::Xor,
-        _ => Op::And,
-    }
-}
-
-// The line at a place where a gate is due.
-pub fn gate_line(text: &[u8], at: usize) -> Look
-    requires { ⌜ at ≤ length (now text) ⌝ }
-    ensures { λ r. ⌜ Sought isGate (now (text .entry)) at r ⌝ }
-{
-    if text.len() - at < 2 {
-        return Look::Other;
-    }
-    let kind = byte_at(text, at);
-    if !is_gate(kind) {
-        return Look::Other;
-    }
-    let words = two_words(text, at);
-    if NO_WORDS <= words {
-        return Look::Other;
-    }
-    let op = gate_op(kind);
-    let x = (words % 65536) as u16;
-    let y = (words / 65536) as u16;
-    Look::Is(Frame::Gate { op, x, y }, at + GATE_BYTES)
-}
-
-// Where an output is due.
-pub fn output_line(text: &[u8], at: usize) -> Look
-    requires { ⌜ at ≤ length (now text) ⌝ }
-    ensures { λ r. ⌜ Sought isOutput (now (text .entry)) at r ⌝ }
-{
-    if text.len() - at < 2 {
-        return Look::Other;
-    }
-    let kind = byte_at(text, at);
-    if kind != OUTPUT {
-        return Look::Other;
-    }
-    output_at(text, at)
-}
-
-// Where a resolve is due.
-pub fn resolve_line(text: &[u8], at: usize) -> Look
-    requires { ⌜ at ≤ length (now text) ⌝ }
-    ensures { λ r. ⌜ Sought isResolve (now (text .entry)) at r ⌝ }
-{
-    if text.len() - at < 2 {
-        return Look::Other;
-    }
-    let kind = byte_at(text, at);
-    if kind != RESOLVE {
-        return Look::Other;
-    }
-    let words = three_words(text, at);
-    if NO_WORDS <= words {
-        return Look::Other;
-    }
-    let first = (words % 65536) as u16;
-    let second = (words / 65536 % 65536) as u16;
-    let variable = (words / 4294967296) as u16;
-    Look::Is(
-        Frame::Resolve {
-            first,
-            second,
-            variable,
-        },
-        at + RESOLVE_BYTES,
-    )
-}
-
-// An extension's line, whose kind is there.
-fn extend_at(text: &[u8], at: usize, op: Op) -> Look
-    requires { ⌜ KindAt (now text) at (extendKind op) ⌝ }
-    ensures { λ r. ⌜ Looked (now (text .entry)) at r ⌝ }
-{
-    let words = two_words(text, at);
-    if NO_WORDS <= words {
-        return Look::Other;
-    }
-    let x = (words % 65536) as u16;
-    let y = (words / 65536) as u16;
-    Look::Is(Frame::Extend { op, x, y }, at + EXTEND_BYTES)
-}
-
 // The line at a place.
 pub fn frame_at(text: &[u8], at: usize) -> Look
     requires { ⌜ at ≤ length (now text) ⌝ }
@@ -291,10 +216,10 @@ pub fn frame_at(text: &[u8], at: usize) -> Look
     let kind = byte_at(text, at);
     match kind {
         0x01 => header_at(text, at),
-        0x02 => gate_line(text, at),
-        0x03 => gate_line(text, at),
+        0x02 => gate_at(text, at, Op::And),
+        0x03 => gate_at(text, at, Op::Xor),
         0x04 => output_at(text, at),
-        0x11 => resolve_line(text, at),
+        0x11 => resolve_at(text, at),
         0x12 => extend_at(text, at, Op::And),
         0x13 => extend_at(text, at, Op::Xor),
         0x21 => report_at(text, at),

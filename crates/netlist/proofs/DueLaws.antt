@@ -15,10 +15,8 @@ use Rattle.model.specs.Lists.{isHeader, isGate, isOutput, inRange, gateOf, head
 use Rattle.frame.proofs.Line as line-type
 use Rattle.frame.specs.declared.Line as code
 use Rattle.frame.specs.declared.Line.the-variants.{Read, End, Refused}
-use Rattle.frame.specs.declared.Cursor.{Cursor}
-use Rattle.frame.specs.declared.Frame as frame-case
-use Rattle.frame.specs.Frames.{frameOf, first, firstOf, NoFrame}
-use Rattle.frame.proofs.FirstLaws.{first-none, first-fault, first-found, Framed}
+use Rattle.frame.specs.Frames.{first, firstOf}
+use Rattle.frame.proofs.FirstLaws.{first-none, first-fault, Framed}
 use Rattle.netlist.specs.Says.{answerOf, missingOf}
 
 -- ---- answers
@@ -45,9 +43,10 @@ pub record Due {A : Type 0} (due : ℕ → Bool) (line : ℕ) (R : List Line →
 
 module _ {A : Type 0} {due : ℕ → Bool} {line : ℕ} {R : List Line → Answer A} {K : Frame → List Line → Answer A} (d : Due due line R K) (ls : List Line) where
   -- no frame stands there
-  pub due-missing : (text : List ℕ) (got : code.Line) → firstOf text got ≡ first ls line → NoFrame got → R ls ≡ answerOf (missingOf got line)
+  pub due-missing : (text : List ℕ) (got : code.Line) → firstOf text got ≡ first ls line → OneOf (1 ∷ 2 ∷ []) (tagOf line-type.the-type got)
+      → R ls ≡ answerOf (missingOf got line)
   unfolding dueAt
-  due-missing text (Read f next) e k = absurd k
+  due-missing text (Read f next) e k = absurd (miss (1 ∷ 2 ∷ []) 0 tt k)
   due-missing text End e k = rw (first-none ls line e) (d .ended)
   due-missing text (Refused number place) e k =
       let r = first-fault ls line e in
@@ -62,19 +61,6 @@ module _ {A : Type 0} {due : ℕ → Bool} {line : ℕ} {R : List Line → Answe
   pub due-read : {f : Frame} {rest : List Line} {next : ℕ} → Framed ls line f rest next → due (f .kind) ≡ true → R ls ≡ K f rest
   unfolding dueAt
   due-read {f} r e = rw (r .cut, d .next (r .line-is) _, r .frame, guard-passed (due (f .kind)) 3 line (ok f) e)
-
-  -- no due frame stands there
-  pub due-unsought : (text : List ℕ) (got : code.Line) → firstOf text got ≡ first ls line → ((f : frame-case.Frame) (next : Cursor) → got ≡ Read f next → due (frameOf f .kind) ≡ false)
-      → R ls ≡ answerOf (missingOf got line)
-  due-unsought text (Read f next) e k = due-other (first-found ls line e) (k f next refl)
-  due-unsought text End e k = due-missing text End e tt
-  due-unsought text (Refused number place) e k = due-missing text (Refused number place) e tt
-
--- what is no frame, where the answer is taken apart
-pub no-frame : (got : code.Line) → OneOf (1 ∷ 2 ∷ []) (tagOf line-type.the-type got) → NoFrame got
-no-frame (Read f next) k = miss (1 ∷ 2 ∷ []) 0 tt k
-no-frame End k = tt
-no-frame (Refused number line) k = tt
 
 -- ---- headers, gates and outputs
 

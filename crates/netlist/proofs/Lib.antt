@@ -1,6 +1,7 @@
 pub mod DueLaws
 pub mod LineLaws
 pub mod LoopLaws
+pub mod PlainLaws
 pub mod ListLaws
 pub mod AgainLaws
 pub mod ReplyLaws

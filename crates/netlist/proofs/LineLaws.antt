@@ -15,7 +15,6 @@ use Rattle.model.specs.Nets as nets
 use Rattle.model.specs.Nets.{Netlist, size, isBelow}
 use Rattle.model.specs.Lists.{isHeader, isGate, isOutput, inRange, gateOf, addGate, addOutput, emptyList, readOutputs, readGates, readList}
 use Rattle.frame.proofs.Frame as frame-type
-use Rattle.frame.proofs.Line as line-type
 use Rattle.frame.specs.declared.Cursor.{Cursor}
 use Rattle.frame.specs.declared.Op.{Op}
 use Rattle.frame.specs.declared.Op.the-variants.{And, Xor}
@@ -24,9 +23,8 @@ use Rattle.frame.specs.declared.Frame.the-variants.{Header, Gate, Output, Resol
 use Rattle.frame.specs.declared.Line.{Line}
 use Rattle.frame.specs.declared.Line.the-variants.{Read, End, Refused}
 use Rattle.frame.specs.Frames.{gateKind, frameOf, first, firstOf, Inside}
-use Rattle.frame.specs.Frames.First.{found}
 use Rattle.frame.proofs.FirstLaws.{first-none, first-fault, first-found, Framed}
-use Rattle.netlist.specs.Says.{from, refusal, answerOf, missingOf, HeaderRead, GateRead, OutputRead}
+use Rattle.netlist.specs.Says.{from, refusal, HeaderRead, GateRead, OutputRead}
 use Rattle.netlist.proofs.DueLaws.{guard-passed, guard-failed, due-other, due-read, header-due, gate-due, output-due}
 
 -- what follows a test follows inside it
@@ -72,9 +70,9 @@ gate-kind Xor = refl
 
 -- ---- a line that was read
 
-module _ (text : List ℕ) (c : Cursor) (f : Frame) (next : Cursor) (e : found (frameOf f) (from text next) (next .line) ≡ first (from text c) (c .line)) where
+module _ (text : List ℕ) (c : Cursor) (got : Line) (e : firstOf text got ≡ first (from text c) (c .line)) (f : Frame) (next : Cursor) (is : got ≡ Read f next) where
   framed : Framed (from text c) (c .line) (frameOf f) (from text next) (next .line)
-  framed = first-found (from text c) (c .line) e
+  framed = first-found (from text c) (c .line) (rw is at e)
 
   -- another frame than the due one
   pub header-other : isHeader (frameOf f .kind) ≡ false → (like : ℕ → ℕ → Bool) → readList like (from text c) (c .line) ≡ refused 3 (c .line)
@@ -155,12 +153,14 @@ module _ (text : List ℕ) (c : Cursor) (got : Line) (e : firstOf text got ≡ f
   unfolding endAt
   end-none is = rw (first-none (from text c) (c .line) (rw is at e))
 
-  -- anything else is refused, and a frame is 3
-  pub end-other : OneOf (0 ∷ 2 ∷ []) (tagOf line-type.the-type got) → endAt (from text c) (c .line) ≡ answerOf (missingOf got (c .line))
+  pub end-refused : (number place : ℕ) → got ≡ Refused number place → endAt (from text c) (c .line) ≡ refused number place
   unfolding endAt
-  end-other k = go got e k
-    where
-      go : (g : Line) → firstOf text g ≡ first (from text c) (c .line) → OneOf (0 ∷ 2 ∷ []) (tagOf line-type.the-type g) → endAt (from text c) (c .line) ≡ answerOf (missingOf g (c .line))
-      go (Read f next) e k = let r = first-found (from text c) (c .line) e in rw (r .cut, r .frame)
-      go End e k = absurd (miss (0 ∷ 2 ∷ []) 1 tt k)
-      go (Refused number place) e k = let r = first-fault (from text c) (c .line) e in rw (r .cut, r .refusal)
+  end-refused number place is =
+      let r = first-fault (from text c) (c .line) (rw is at e) in
+      rw (r .cut, r .refusal)
+
+  pub end-more : (f : Frame) (next : Cursor) → got ≡ Read f next → endAt (from text c) (c .line) ≡ refused 3 (c .line)
+  unfolding endAt
+  end-more f next is =
+      let r = first-found (from text c) (c .line) (rw is at e) in
+      rw (r .cut, r .frame)

@@ -1,4 +1,5 @@
 pub mod Says
 pub mod Replies
 pub mod Again
+pub mod Plain
 pub mod Within

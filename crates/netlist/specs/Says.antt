@@ -48,9 +48,6 @@ missingOf (Refused number place) line = refusal number place
 
 -- ---- one line
 
-abbrev pub cursor : ℕ → ℕ → Cursor
-cursor at line = record { at = at; line = line }
-
 -- the lines from a cursor on
 abbrev pub from : List ℕ → Cursor → List model.Line
 from text c = model.lines (drop (c .at) text)
@@ -75,11 +72,19 @@ pub record GateRead (text : List ℕ) (c : Cursor) (net : ℕ) (next : Cursor) :
   pub gate : Gate
   pub reads : (k m : ℕ) (n : Netlist) → size n ≡ net → readGates (suc k) m n (from text c) (c .line) ≡ readGates k m (addGate n gate) (from text next) (next .line)
 
+abbrev pub GateSays : List ℕ → Cursor → ℕ → behind.Behind → Type 0
+GateSays text c net (behind-case.At next) = GateRead text c net next
+GateSays text c net (behind-case.Refused r) = (k m : ℕ) (n : Netlist) → size n ≡ net → readGates (suc k) m n (from text c) (c .line) ≡ answerOf r
+
 -- The next output of every list with so many nets.
 pub record OutputRead (text : List ℕ) (c : Cursor) (nets : ℕ) (next : Cursor) : Type 0 where
   pub inside : Inside text next
   pub literal : ℕ
   pub reads : (k : ℕ) (n : Netlist) → size n ≡ nets → readOutputs (suc k) n (from text c) (c .line) ≡ readOutputs k (addOutput n literal) (from text next) (next .line)
+
+abbrev pub OutputSays : List ℕ → Cursor → ℕ → behind.Behind → Type 0
+OutputSays text c nets (behind-case.At next) = OutputRead text c nets next
+OutputSays text c nets (behind-case.Refused r) = (k : ℕ) (n : Netlist) → size n ≡ nets → readOutputs (suc k) n (from text c) (c .line) ≡ answerOf r
 
 -- ---- several lines
 

@@ -1,13 +1,11 @@
 // Gates and outputs of a list that was read, by their place: the lines of a list have fixed lengths. Each contract names gate k, or output k,
 // of whatever list the text has at that place, so that nobody proves the reading again.
+use frame::Cursor;
 use frame::Frame;
+use frame::Line;
 use frame::Op;
-use frame::kinds::GATE_BYTES;
-use frame::kinds::HEADER_BYTES;
-use frame::kinds::Look;
-use frame::kinds::OUTPUT_BYTES;
-use frame::kinds::gate_line;
-use frame::kinds::output_line;
+use words::read::gate_line;
+use words::read::output_line;
 ghost use mathlib.Core.Path.{_≡_};
 ghost use Prim.Native.Nat.{_≤_, _<_};
 ghost use lib.ListN.{drop, length, getD};
@@ -15,6 +13,13 @@ ghost use Rattle.model.specs.Limits.{mostGates, mostOutputs};
 ghost use Rattle.model.specs.Nets.{Netlist};
 ghost use Rattle.laws.specs.ListText.{Stands};
 ghost use Rattle.netlist.specs.Again.{opOf, gateMeant, noGate};
+
+// The bytes of each line of a list, its LF counted.
+pub const HEADER_BYTES: usize = 11;
+
+pub const GATE_BYTES: usize = 11;
+
+pub const OUTPUT_BYTES: usize = 7;
 
 pub struct Gate {
     pub op: Op,
@@ -35,8 +40,8 @@ pub fn gate_at(text: &[u8], at: usize, k: usize) -> Gate
             y: 0,
         };
     }
-    let look = gate_line(text, place);
-    let Look::Is(frame, _) = look else {
+    let got = gate_line(text, Cursor { at: place, line: 1 });
+    let Line::Read(frame, _) = got else {
         return Gate {
             op: Op::And,
             x: 0,
@@ -53,13 +58,19 @@ pub fn gate_at(text: &[u8], at: usize, k: usize) -> Gate
     Gate { op, x, y }
 }
 
-// The operation of gate k alone.
+// The operation of gate k alone: the second digit of its kind tells AND from XOR.
 pub fn op_at(text: &[u8], at: usize, k: usize) -> Op
     requires { ⌜ (at ≤ length (now text)) × (k < mostGates) ⌝ }
     ensures { λ r. ⌜ ((n : Netlist) → Stands (drop at (now (text .entry))) n → k < length (n .gates) → opOf r ≡ getD (n .gates) k noGate .op) ⌝ }
 {
-    let gate = gate_at(text, at, k);
-    gate.op
+    let place = at + HEADER_BYTES + GATE_BYTES * k + 1;
+    if text.len() <= place {
+        return Op::And;
+    }
+    if text[place] == 51 {
+        return Op::Xor;
+    }
+    Op::And
 }
 
 // The literal of output k, from 0, of the list at a place, which has so many gates.
@@ -71,8 +82,8 @@ pub fn output_at(text: &[u8], at: usize, gates: usize, k: usize) -> u16
     if text.len() < place {
         return 0;
     }
-    let look = output_line(text, place);
-    let Look::Is(frame, _) = look else {
+    let got = output_line(text, Cursor { at: place, line: 1 });
+    let Line::Read(frame, _) = got else {
         return 0;
     };
     let Frame::Output { literal } = frame else {

@@ -4,19 +4,19 @@ use crate::Behind;
 use crate::Counts;
 use crate::Part;
 use crate::Refusal;
+use crate::again::GATE_BYTES;
+use crate::again::OUTPUT_BYTES;
+use crate::plain::plain_gates;
+use crate::plain::plain_outputs;
 use frame::Cursor;
 use frame::Frame;
 use frame::Line;
-use frame::kinds::Look;
-use frame::kinds::gate_line;
-use frame::kinds::output_line;
 use frame::read_line;
-use literal::Literal;
 ghost use mathlib.Core.Path.{_≡_};
 ghost use Prim.Native.Nat.{_+_, _≤_};
 ghost use Rattle.model.specs.Limits.{mostInputs, mostGates, mostOutputs};
 ghost use Rattle.frame.specs.Frames.{Inside};
-ghost use Rattle.netlist.specs.Says.{missingOf, HeaderSays, GatesSay, OutputsSay, BodySays, EndSays};
+ghost use Rattle.netlist.specs.Says.{missingOf, HeaderSays, GateSays, GatesSay, OutputSays, OutputsSay, BodySays, EndSays};
 
 pub const MOST_INPUTS: u8 = 64;
 
@@ -74,60 +74,113 @@ pub fn read_header(text: &[u8], cursor: Cursor) -> Part
     )
 }
 
-// So many gates, of which the first is this net; each reads only nets below its own. A place and a count go round, since a cursor in an answer
-// that is taken apart at each line costs more than the line.
+// The gate that is this net: it reads only nets below its own.
+pub fn read_gate(text: &[u8], cursor: Cursor, net: usize) -> Behind
+    requires { ⌜ Inside (now text) cursor ⌝ }
+    ensures { λ r. ⌜ GateSays (now (text .entry)) cursor net r ⌝ }
+{
+    let line = cursor.line;
+    let got = read_line(text, cursor);
+    let Line::Read(frame, next) = got else {
+        return Behind::Refused(missing(got, line));
+    };
+    let Frame::Gate { op: _, x, y } = frame else {
+        return Behind::Refused(Refusal { number: 3, line });
+    };
+    if net <= (x / 2) as usize {
+        return Behind::Refused(Refusal { number: 7, line });
+    }
+    if net <= (y / 2) as usize {
+        return Behind::Refused(Refusal { number: 7, line });
+    }
+    Behind::At(next)
+}
+
+// So many gates, of which the first is this net, one by one.
+fn each_gate(text: &[u8], cursor: Cursor, first: usize, count: usize) -> Behind
+    requires { ⌜ Inside (now text) cursor × (first + count ≤ 1 + mostInputs + mostGates) ⌝ }
+    ensures { λ r. ⌜ GatesSay (now (text .entry)) cursor first count r ⌝ }
+{
+    let mut c = cursor;
+    let mut i: usize = 0;
+    while i < count {
+        let gate = read_gate(text, c, first + i);
+        let Behind::At(next) = gate else {
+            return gate;
+        };
+        c = next;
+        i += 1;
+    }
+    Behind::At(c)
+}
+
+// So many gates, of which the first is this net: those known at one look, and the others one by one.
 pub fn read_gates(text: &[u8], cursor: Cursor, first: usize, count: usize) -> Behind
     requires { ⌜ Inside (now text) cursor × (first ≤ 1 + mostInputs) × (count ≤ mostGates) ⌝ }
     ensures { λ r. ⌜ GatesSay (now (text .entry)) cursor first count r ⌝ }
 {
-    let mut at = cursor.at;
-    let mut i: usize = 0;
-    while i < count {
-        let line = cursor.line + i;
-        let look = gate_line(text, at);
-        let Look::Is(frame, behind) = look else {
-            return Behind::Refused(missing(read_line(text, Cursor { at, line }), line));
-        };
-        let Frame::Gate { op: _, x, y } = frame else {
-            return Behind::Refused(Refusal { number: 3, line });
-        };
-        if first + i <= Literal::of(x).variable() as usize {
-            return Behind::Refused(Refusal { number: 7, line });
-        }
-        if first + i <= Literal::of(y).variable() as usize {
-            return Behind::Refused(Refusal { number: 7, line });
-        }
-        at = behind;
-        i += 1;
+    let known = plain_gates(text, cursor.at, first, count);
+    let rest = Cursor {
+        at: cursor.at + GATE_BYTES * known,
+        line: cursor.line + known,
+    };
+    if known == count {
+        return Behind::At(rest);
     }
-    let line = cursor.line + count;
-    Behind::At(Cursor { at, line })
+    each_gate(text, rest, first + known, count - known)
 }
 
-// So many outputs of a list with so many nets; each reads any of them.
+// An output of a list with so many nets: it reads any of them.
+pub fn read_output(text: &[u8], cursor: Cursor, nets: usize) -> Behind
+    requires { ⌜ Inside (now text) cursor ⌝ }
+    ensures { λ r. ⌜ OutputSays (now (text .entry)) cursor nets r ⌝ }
+{
+    let line = cursor.line;
+    let got = read_line(text, cursor);
+    let Line::Read(frame, next) = got else {
+        return Behind::Refused(missing(got, line));
+    };
+    let Frame::Output { literal } = frame else {
+        return Behind::Refused(Refusal { number: 3, line });
+    };
+    if nets <= (literal / 2) as usize {
+        return Behind::Refused(Refusal { number: 7, line });
+    }
+    Behind::At(next)
+}
+
+// So many outputs, one by one.
+fn each_output(text: &[u8], cursor: Cursor, nets: usize, count: usize) -> Behind
+    requires { ⌜ Inside (now text) cursor ⌝ }
+    ensures { λ r. ⌜ OutputsSay (now (text .entry)) cursor nets count r ⌝ }
+{
+    let mut c = cursor;
+    let mut k: usize = 0;
+    while k < count {
+        let output = read_output(text, c, nets);
+        let Behind::At(next) = output else {
+            return output;
+        };
+        c = next;
+        k += 1;
+    }
+    Behind::At(c)
+}
+
+// So many outputs: those known at one look, and the others one by one.
 pub fn read_outputs(text: &[u8], cursor: Cursor, nets: usize, count: usize) -> Behind
     requires { ⌜ Inside (now text) cursor × (count ≤ mostOutputs) ⌝ }
     ensures { λ r. ⌜ OutputsSay (now (text .entry)) cursor nets count r ⌝ }
 {
-    let mut at = cursor.at;
-    let mut i: usize = 0;
-    while i < count {
-        let line = cursor.line + i;
-        let look = output_line(text, at);
-        let Look::Is(frame, behind) = look else {
-            return Behind::Refused(missing(read_line(text, Cursor { at, line }), line));
-        };
-        let Frame::Output { literal } = frame else {
-            return Behind::Refused(Refusal { number: 3, line });
-        };
-        if nets <= Literal::of(literal).variable() as usize {
-            return Behind::Refused(Refusal { number: 7, line });
-        }
-        at = behind;
-        i += 1;
+    let known = plain_outputs(text, cursor.at, nets, count);
+    let rest = Cursor {
+        at: cursor.at + OUTPUT_BYTES * known,
+        line: cursor.line + known,
+    };
+    if known == count {
+        return Behind::At(rest);
     }
-    let line = cursor.line + count;
-    Behind::At(Cursor { at, line })
+    each_output(text, rest, nets, count - known)
 }
 
 // The gates and the outputs behind a header.
@@ -152,8 +205,9 @@ pub fn read_end(text: &[u8], cursor: Cursor) -> Behind
 {
     let line = cursor.line;
     let got = read_line(text, cursor);
-    let Line::End = got else {
-        return Behind::Refused(missing(got, line));
-    };
-    Behind::At(cursor)
+    match got {
+        Line::End => Behind::At(cursor),
+        Line::Refused { number, line } => Behind::Refused(Refusal { number, line }),
+        Line::Read(_, _) => Behind::Refused(Refusal { number: 3, line }),
+    }
 }

@@ -7,8 +7,7 @@ use denote.Ref.{now}
 use lib.ListN.{length}
 use Rattle.frame.specs.declared.Cursor.{Cursor}
 use Rattle.frame.specs.declared.Line.the-variants.{Read}
-use Rattle.frame.specs.Kinds.{isResolve}
-use Rattle.frame.proofs.KindLaws.{sought-framed}
+use Rattle.words.proofs.LookLaws.{read-look}
 use Rattle.checker.specs.Replays.{RanTo}
 use Rattle.checker.proofs.ReplayLaws.{ran-none, ran-joined, ran-refused, ran-line, line-refused}
 use Rattle.checker.proofs.replay.run_resolves.Statement.{statement}
@@ -16,7 +15,7 @@ use Rattle.checker.proofs.replay.run_resolves.Tie as tie
 use Rattle.checker.proofs.replay.run_resolves.Reads as reads
 use Rattle.checker.proofs.replay.run_resolves.Lts as lts
 use Rattle.checker.proofs.replay.frame_step.Reads as frame-step-reads
-use Rattle.frame.proofs.kinds.resolve_line.Reads as resolve-line-reads
+use Rattle.words.proofs.read.look_resolve.Reads as look-resolve-reads
 
 abbrev Inv-loop : tie.InvT-loop
 Inv-loop text store₀ room c₀ p₀ store c p = RanTo room text c₀ store₀ p₀ store c p × (c₀ .at ≤ c .at)
@@ -27,8 +26,8 @@ abbrev μ-loop : tie.MeasureT-loop
 loop-holds : tie.Need-loop-holds Inv-loop μ-loop
 loop-holds c = (ran-none (c .before .before .pre .0) (c .before .before .pre .1), omega arith)
 
-resolve-line-requires : tie.Need-resolve-line-requires Inv-loop μ-loop
-resolve-line-requires c κs = c .loop .inv .0 .inside .at
+look-resolve-requires : tie.Need-look-resolve-requires Inv-loop μ-loop
+look-resolve-requires c κs = c .loop .inv .0 .inside .at
 
 enum-known-look : tie.Need-enum-known-look Inv-loop μ-loop
 enum-known-look c = search needs
@@ -52,7 +51,7 @@ add-t17 : tie.Need-add-t17 Inv-loop μ-loop
 add-t17 c =
     let a = c .before .before .before .before .before .before .before .before .before .before .before .before .before .before .args in
     let l = c .before .before .before .before .before .before .before .before .before .before .before .loop in
-    let k = sought-framed isResolve (now (a .text)) (l .c) (c .before .before .before .before .before .before .before .before .before .before .resolve-line .ensures) (l .inv .0 .inside .line) (c .before .before .before .before .before .before .before .before .look .given .1) in
+    let k = read-look (now (a .text)) (l .c) (l .inv .0 .inside .line) (c .before .before .before .before .before .before .before .before .before .before .look-resolve .ensures) (c .before .before .before .before .before .before .before .before .look .given .1) in
     let m = k .1 .0 .at in
     let n = k .1 .0 .line in
     search needs
@@ -62,7 +61,7 @@ loop-less c =
     let a = c .before .before .before .before .before .before .before .before .before .before .before .before .before .before .args in
     let l = c .before .before .before .before .before .before .before .before .before .before .before .loop in
     let look = c .before .before .before .before .before .before .before .before .look .given in
-    let known = sought-framed isResolve (now (a .text)) (l .c) (c .before .before .before .before .before .before .before .before .before .before .resolve-line .ensures) (l .inv .0 .inside .line) (look .1) in
+    let known = read-look (now (a .text)) (l .c) (l .inv .0 .inside .line) (c .before .before .before .before .before .before .before .before .before .before .look-resolve .ensures) (look .1) in
     omega (arith, known .1 .1, known .1 .0 .at)
 
 loop-again : tie.Need-loop-again Inv-loop μ-loop
@@ -70,7 +69,7 @@ loop-again c =
     let a = c .before .before .before .before .before .before .before .before .before .before .before .before .before .before .args in
     let l = c .before .before .before .before .before .before .before .before .before .before .before .loop in
     let look = c .before .before .before .before .before .before .before .before .look .given in
-    let known = sought-framed isResolve (now (a .text)) (l .c) (c .before .before .before .before .before .before .before .before .before .before .resolve-line .ensures) (l .inv .0 .inside .line) (look .1) in
+    let known = read-look (now (a .text)) (l .c) (l .inv .0 .inside .line) (c .before .before .before .before .before .before .before .before .before .before .look-resolve .ensures) (look .1) in
     let f = look .0 .0 in
     let next : Cursor = record { at = look .0 .1 .0; line = l .c .line + 1 } in
     let step = c .before .before .before .before .before .frame-step in
@@ -91,7 +90,7 @@ returns-2 c =
     let a = c .before .before .before .before .before .before .before .before .before .before .before .before .before .before .args in
     let l = c .before .before .before .before .before .before .before .before .before .before .before .loop in
     let look = c .before .before .before .before .before .before .before .before .look .given in
-    let known = sought-framed isResolve (now (a .text)) (l .c) (c .before .before .before .before .before .before .before .before .before .before .resolve-line .ensures) (l .inv .0 .inside .line) (look .1) in
+    let known = read-look (now (a .text)) (l .c) (l .inv .0 .inside .line) (c .before .before .before .before .before .before .before .before .before .before .look-resolve .ensures) (look .1) in
     let f = look .0 .0 in
     let next : Cursor = record { at = look .0 .1 .0; line = l .c .line + 1 } in
     let step = c .before .before .before .before .before .frame-step in
@@ -104,7 +103,7 @@ run-resolves-spec =
     Inv-loop
     μ-loop
     loop-holds
-    resolve-line-requires
+    look-resolve-requires
     enum-known-look
     enum-told
     same-length

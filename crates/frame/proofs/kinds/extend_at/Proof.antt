@@ -1,33 +1,91 @@
--- Two words behind an extension's kind, or none.
+-- Where LF stands elsewhere, or a field is not all digits, the line has another length than its kind (`unfed`, `stopped`); else it is framed.
+use Prim.Native.Nat.{_+_}
+use mathlib.Core.Path.{_≡_, refl}
+use mathlib.Core.Bool.{true}
+use mathlib.Core.List.{[], _∷_}
 use native.Mathlib.Omega.{arith}
-use Rattle.frame.proofs.KindLaws.{extend-widths}
+use denote.Ref.{now}
+use borrow.Author.Tests.{not-true, not-false}
+use Rattle.model.specs.Frames.{total, twoBytes}
+use Rattle.frame.proofs.KindLaws.{framed, unfed, stopped, spelt-more, extend-widths}
 use borrow.Author.Needs.{needs}
 use Rattle.frame.proofs.kinds.extend_at.Statement.{statement}
 use Rattle.frame.proofs.kinds.extend_at.Tie as tie
 use Rattle.frame.proofs.kinds.extend_at.Reads as reads
 use Rattle.frame.proofs.kinds.extend_at.Lts as lts
-use Rattle.frame.proofs.kinds.two_words.Reads as two-words-reads
+use Rattle.digits.proofs.read.word_at.Reads as word-at-reads
+use Rattle.frame.proofs.kinds.feeds.Reads as feeds-reads
 
-two-words-requires : tie.Need-two-words-requires
-two-words-requires c κs = search needs
+feeds-requires : tie.Need-feeds-requires
+feeds-requires c κs = search needs
 
 returns : tie.Need-returns
-returns c = let b = c .before .before .before in c .before .two-words .ensures .none (c .if1 .taken) _ (b .pre) (extend-widths (b .args .op))
+unfolding total
+returns c =
+    let b = c .before .before .before in
+    unfed (now (b .args .text)) (b .args .at) (twoBytes ∷ twoBytes ∷ []) (b .pre) (extend-widths (b .args .op)) (c .before .feeds .ensures) (not-true _ (c .if1 .taken)) refl
 
-cast-x : tie.Need-cast-x
-cast-x c = search needs
+add-word-at : tie.Need-add-word-at
+add-word-at c = search needs
 
-cast-y : tie.Need-cast-y
-cast-y c = record { fits = c .before .two-words .ensures .small (omega arith) }
-
-add-t10 : tie.Need-add-t10
-add-t10 c = search needs
+word-at-requires : tie.Need-word-at-requires
+word-at-requires c κs = omega (arith, c .before .feeds .ensures .room (not-false _ (c .if1 .left)))
 
 returns-2 : tie.Need-returns-2
+unfolding total
 returns-2 c =
-    let b = c .before .before .before in
-    let r = c .before .two-words .ensures .some (omega arith) _ (b .pre) (extend-widths (b .args .op)) in
-    (omega arith, r .0, r .1)
+    let b = c .before .before .before .before .before in
+    stopped (now (b .args .text)) (b .args .at) (twoBytes ∷ twoBytes ∷ []) (b .pre) (extend-widths (b .args .op)) (omega (arith, b .pre .goes, c .before .word-at .ensures .stops (c .if2 .taken)))
+
+add-word-at-2 : tie.Need-add-word-at-2
+add-word-at-2 c = search needs
+
+word-at-requires-2 : tie.Need-word-at-requires-2
+word-at-requires-2 c κs = omega (arith, c .before .before .before .feeds .ensures .room (not-false _ (c .before .before .if1 .left)))
+
+returns-3 : tie.Need-returns-3
+unfolding total
+returns-3 c =
+    let b = c .before .before .before .before .before .before .before in
+    stopped (now (b .args .text)) (b .args .at) (twoBytes ∷ twoBytes ∷ []) (b .pre) (extend-widths (b .args .op)) (omega (arith, b .pre .goes, c .before .before .before .word-at .ensures .goes (omega arith) (b .args .at + 6) (omega arith), c .before .word-at2 .ensures .stops (c .if3 .taken)))
+
+cast-t9 : tie.Need-cast-t9
+cast-t9 c = search needs
+
+cast-t10 : tie.Need-cast-t10
+cast-t10 c = search needs
+
+add-t8 : tie.Need-add-t8
+add-t8 c = search needs
+
+returns-4 : tie.Need-returns-4
+unfolding total
+returns-4 c =
+    let b = c .before .before .before .before .before .before .before in
+    let at = b .args .at in
+    let fed : c .before .before .before .before .before .feeds .result ≡ true = not-false _ (c .before .before .before .before .if1 .left) in
+    let f = c .before .before .before .before .before .feeds .ensures in
+    let r1 = c .before .before .before .word-at in
+    let r2 = c .before .word-at2 in
+    let room = f .room fed in
+    let spelt = spelt-more (at + 6) (twoBytes ∷ []) (r2 .result ∷ []) (r1 .ensures) (omega arith) (omega arith) (spelt-more (at + 10) [] [] (r2 .ensures) (omega arith) (omega arith) refl) in
+    let l = framed (now (b .args .text)) at (twoBytes ∷ twoBytes ∷ []) (b .pre) (extend-widths (b .args .op)) (r1 .result ∷ r2 .result ∷ []) 10 refl spelt refl (omega arith) (f .feed fed 10 refl) in
+    let e : at + 10 + 1 ≡ at + 11 = omega arith in
+    (omega arith, omega arith, rw e at l)
 
 pub extend-at-spec : {M : Type 1} → statement M
-extend-at-spec = tie.close (tie.spec two-words-requires returns cast-x cast-y add-t10 returns-2)
+extend-at-spec =
+    tie.close
+    (tie.spec
+    feeds-requires
+    returns
+    add-word-at
+    word-at-requires
+    returns-2
+    add-word-at-2
+    word-at-requires-2
+    returns-3
+    cast-t9
+    cast-t10
+    add-t8
+    returns-4)

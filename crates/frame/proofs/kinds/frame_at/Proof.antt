@@ -1,12 +1,9 @@
 -- Each arm has the kind that the first two digits spell (`known`); any other number is none of the table (`unknown`).
-use mathlib.Core.Path.{refl}
 use native.Mathlib.Omega.{arith}
 use denote.Ref.{now}
 use borrow.Author.Tests.{ne-eqb}
-use Rattle.model.specs.Lists.{isGate}
 use Rattle.model.specs.Frames.{widths}
-use Rattle.frame.specs.Kinds.{isResolve}
-use Rattle.frame.proofs.KindLaws.{known, unknown, unframed-short, looked}
+use Rattle.frame.proofs.KindLaws.{known, unknown, unframed-short}
 use borrow.Author.Needs.{needs}
 use Rattle.frame.proofs.kinds.frame_at.Statement.{statement}
 use Rattle.frame.proofs.kinds.frame_at.Tie as tie
@@ -14,11 +11,11 @@ use Rattle.frame.proofs.kinds.frame_at.Reads as reads
 use Rattle.frame.proofs.kinds.frame_at.Lts as lts
 use Rattle.digits.proofs.read.byte_at.Reads as byte-at-reads
 use Rattle.frame.proofs.kinds.extend_at.Reads as extend-at-reads
-use Rattle.frame.proofs.kinds.gate_line.Reads as gate-line-reads
+use Rattle.frame.proofs.kinds.gate_at.Reads as gate-at-reads
 use Rattle.frame.proofs.kinds.header_at.Reads as header-at-reads
 use Rattle.frame.proofs.kinds.output_at.Reads as output-at-reads
 use Rattle.frame.proofs.kinds.report_at.Reads as report-at-reads
-use Rattle.frame.proofs.kinds.resolve_line.Reads as resolve-line-reads
+use Rattle.frame.proofs.kinds.resolve_at.Reads as resolve-at-reads
 
 sub-if1 : tie.Need-sub-if1
 sub-if1 c = search needs
@@ -32,17 +29,17 @@ byte-at-requires c κs = search needs
 header-at-requires : tie.Need-header-at-requires
 header-at-requires c κs = known _ _ _ (omega arith) (c .before .byte-at .ensures) (c .match .keys1) (omega arith)
 
-gate-line-requires : tie.Need-gate-line-requires
-gate-line-requires c κs = search needs
+gate-at-requires : tie.Need-gate-at-requires
+gate-at-requires c κs = known _ _ _ (omega arith) (c .before .byte-at .ensures) (c .match .keys2) (omega arith)
 
-gate-line-requires-2 : tie.Need-gate-line-requires-2
-gate-line-requires-2 c κs = search needs
+gate-at-requires-2 : tie.Need-gate-at-requires-2
+gate-at-requires-2 c κs = known _ _ _ (omega arith) (c .before .byte-at .ensures) (c .match .keys3) (omega arith)
 
 output-at-requires : tie.Need-output-at-requires
 output-at-requires c κs = known _ _ _ (omega arith) (c .before .byte-at .ensures) (c .match .keys4) (omega arith)
 
-resolve-line-requires : tie.Need-resolve-line-requires
-resolve-line-requires c κs = search needs
+resolve-at-requires : tie.Need-resolve-at-requires
+resolve-at-requires c κs = known _ _ _ (omega arith) (c .before .byte-at .ensures) (c .match .keys5) (omega arith)
 
 extend-at-requires : tie.Need-extend-at-requires
 extend-at-requires c κs = known _ _ _ (omega arith) (c .before .byte-at .ensures) (c .match .keys6) (omega arith)
@@ -57,16 +54,16 @@ returns-2 : tie.Need-returns-2
 returns-2 c = search needs
 
 returns-3 : tie.Need-returns-3
-returns-3 c = looked isGate _ _ (c .gate-line .result) (c .gate-line .ensures) (known _ _ _ (omega arith) (c .before .before .byte-at .ensures) (c .before .match .keys2) (omega arith)) refl
+returns-3 c = search needs
 
 returns-4 : tie.Need-returns-4
-returns-4 c = looked isGate _ _ (c .gate-line2 .result) (c .gate-line2 .ensures) (known _ _ _ (omega arith) (c .before .before .byte-at .ensures) (c .before .match .keys3) (omega arith)) refl
+returns-4 c = search needs
 
 returns-5 : tie.Need-returns-5
 returns-5 c = search needs
 
 returns-6 : tie.Need-returns-6
-returns-6 c = looked isResolve _ _ (c .resolve-line .result) (c .resolve-line .ensures) (known _ _ _ (omega arith) (c .before .before .byte-at .ensures) (c .before .match .keys5) (omega arith)) refl
+returns-6 c = search needs
 
 returns-7 : tie.Need-returns-7
 returns-7 c = search needs
@@ -93,10 +90,10 @@ frame-at-spec =
     returns
     byte-at-requires
     header-at-requires
-    gate-line-requires
-    gate-line-requires-2
+    gate-at-requires
+    gate-at-requires-2
     output-at-requires
-    resolve-line-requires
+    resolve-at-requires
     extend-at-requires
     extend-at-requires-2
     report-at-requires

@@ -1,18 +1,14 @@
 -- Where a list stands, the frame of gate k is found at its place (`AgainLaws`), so every return but the last speaks of no list.
 use Prim.Native.Nat.{_+_, _*_}
-use native.Mathlib.Omega.{arith}
 use denote.Ref.{now}
-use lib.ListN.{getD}
-use Rattle.model.specs.Lists.{isGate}
 use Rattle.laws.specs.ListText.{headerBytes, gateBytes}
-use Rattle.netlist.specs.Again.{noGate}
-use Rattle.netlist.proofs.AgainLaws.{gate-kind, beyond, not-missing, found-again, gate-place, gate-is, gate-only}
+use Rattle.netlist.proofs.AgainLaws.{beyond, not-missing, found-again, gate-place, gate-is, gate-only}
 use borrow.Author.Needs.{needs}
 use Rattle.netlist.proofs.again.gate_at.Statement.{statement}
 use Rattle.netlist.proofs.again.gate_at.Tie as tie
 use Rattle.netlist.proofs.again.gate_at.Reads as reads
 use Rattle.netlist.proofs.again.gate_at.Lts as lts
-use Rattle.frame.proofs.kinds.gate_line.Reads as gate-line-reads
+use Rattle.words.proofs.read.gate_line.Reads as gate-line-reads
 
 add-place : tie.Need-add-place
 add-place c = search needs
@@ -31,18 +27,15 @@ returns c =
 gate-line-requires : tie.Need-gate-line-requires
 gate-line-requires c κs = search needs
 
-enum-known-look : tie.Need-enum-known-look
-enum-known-look c = search needs
-
-enum-told : tie.Need-enum-told
-enum-told c = search needs
+enum-known-got : tie.Need-enum-known-got
+enum-known-got c = search needs
 
 returns-2 : tie.Need-returns-2
 returns-2 c =
-    let a = c .before .before .before .before .before .args in
+    let a = c .before .before .before .before .args in
     let place = a .at + headerBytes + gateBytes * a .k in
-    let look = c .before .before .gate-line in
-    λ n s h. absurd (not-missing isGate (now (a .text)) place (look .result) (look .ensures) _ (gate-place (now (a .text)) (a .at) s (a .k) h) (gate-kind (getD (n .gates) (a .k) noGate)) (omega arith) (c .enum-told .given .1))
+    let one = c .before .gate-line in
+    λ n s h. absurd (not-missing (now (a .text)) place (one .result) (one .ensures .0) _ (gate-place (now (a .text)) (a .at) s (a .k) h) (c .match .keys2))
 
 enum-known-frame : tie.Need-enum-known-frame
 enum-known-frame c = search needs
@@ -51,19 +44,19 @@ returns-3 : tie.Need-returns-3
 returns-3 c =
     let a = c .before .before .before .before .before .before .before .args in
     let place = a .at + headerBytes + gateBytes * a .k in
-    let look = c .before .before .before .before .gate-line in
-    let is = c .before .before .look .given in
-    λ n s h. absurd (gate-only (now (a .text)) (a .at) s (a .k) (is .0 .0) (c .match2 .keys2)
-    (found-again isGate (now (a .text)) place (look .result) (look .ensures) _ (gate-place (now (a .text)) (a .at) s (a .k) h) _ _ (is .1)))
+    let one = c .before .before .before .before .gate-line in
+    let got = c .before .before .got .given in
+    λ n s h. absurd (gate-only (now (a .text)) (a .at) s (a .k) (got .0 .0) (c .match2 .keys2)
+    (found-again (now (a .text)) place (one .result) (one .ensures .0) _ (gate-place (now (a .text)) (a .at) s (a .k) h) _ _ (got .1)))
 
 returns-4 : tie.Need-returns-4
 returns-4 c =
     let a = c .before .before .before .before .before .before .before .before .before .args in
     let place = a .at + headerBytes + gateBytes * a .k in
-    let look = c .before .before .before .before .before .before .gate-line in
-    let is = c .before .before .before .before .look .given in
+    let one = c .before .before .before .before .before .before .gate-line in
+    let got = c .before .before .before .before .got .given in
     λ n s h. gate-is (now (a .text)) (a .at) s (a .k) h
-    (rw (c .before .frame .given .1) at (found-again isGate (now (a .text)) place (look .result) (look .ensures) _ (gate-place (now (a .text)) (a .at) s (a .k) h) _ _ (is .1)))
+    (rw (c .before .frame .given .1) at (found-again (now (a .text)) place (one .result) (one .ensures .0) _ (gate-place (now (a .text)) (a .at) s (a .k) h) _ _ (got .1)))
 
 pub gate-at-spec : {M : Type 1} → statement M
 gate-at-spec =
@@ -74,8 +67,7 @@ gate-at-spec =
     add-place-2
     returns
     gate-line-requires
-    enum-known-look
-    enum-told
+    enum-known-got
     returns-2
     enum-known-frame
     returns-3

@@ -5,7 +5,7 @@ use Rattle.model.specs.Limits.{mostInputs, mostGates, mostOutputs}
 use borrow.Author.Tests.{lt-leb, le-ltb}
 use denote.Ref.{now}
 use Rattle.netlist.specs.Says.{from}
-use Rattle.netlist.proofs.DueLaws.{due-missing, no-frame, header-due}
+use Rattle.netlist.proofs.DueLaws.{due-missing, header-due}
 use Rattle.netlist.proofs.LineLaws.{not-header, header-other, header-range, header-read}
 use borrow.Author.Needs.{needs}
 use Rattle.netlist.proofs.lines.read_header.Statement.{statement}
@@ -28,7 +28,7 @@ returns : tie.Need-returns
 returns c =
     let a = c .before .before .before .before .args in
     let got = c .before .before .read-line in
-    λ like. rw (c .missing .ensures) (due-missing (header-due like (a .cursor .line)) (from (now (a .text)) (a .cursor)) (now (a .text)) (got .result) (got .ensures .0) (no-frame (got .result) (c .before .match .keys2)))
+    λ like. rw (c .missing .ensures) (due-missing (header-due like (a .cursor .line)) (from (now (a .text)) (a .cursor)) (now (a .text)) (got .result) (got .ensures .0) (c .before .match .keys2))
 
 enum-known-frame : tie.Need-enum-known-frame
 enum-known-frame c = search needs
@@ -38,7 +38,7 @@ returns-2 c =
     let a = c .before .before .before .before .before .before .args in
     let one = c .before .before .before .before .read-line in
     let got = c .before .before .got .given in
-    λ like. header-other (now (a .text)) (a .cursor) (got .0 .0) (got .0 .1 .0) (rw (got .1) at (one .ensures .0)) (not-header (got .0 .0) (c .match2 .keys2)) like
+    λ like. header-other (now (a .text)) (a .cursor) (one .result) (one .ensures .0) _ _ (got .1) (not-header (got .0 .0) (c .match2 .keys2)) like
 
 returns-3 : tie.Need-returns-3
 returns-3 c =
@@ -46,7 +46,7 @@ returns-3 c =
     let one = c .before .before .before .before .before .before .before .read-line in
     let got = c .before .before .before .before .before .got .given in
     let h = c .before .before .frame .given in
-    header-range (now (a .text)) (a .cursor) (got .0 .0) (got .0 .1 .0) (rw (got .1) at (one .ensures .0)) _ _ _ (h .1) (rw (lt-leb (h .0 .0) mostInputs (omega arith)))
+    header-range (now (a .text)) (a .cursor) (one .result) (one .ensures .0) _ _ (got .1) _ _ _ (h .1) (rw (lt-leb (h .0 .0) mostInputs (omega arith)))
 
 returns-4 : tie.Need-returns-4
 returns-4 c =
@@ -54,7 +54,7 @@ returns-4 c =
     let one = c .before .before .before .before .before .before .before .before .read-line in
     let got = c .before .before .before .before .before .before .got .given in
     let h = c .before .before .before .frame .given in
-    header-range (now (a .text)) (a .cursor) (got .0 .0) (got .0 .1 .0) (rw (got .1) at (one .ensures .0)) _ _ _ (h .1) (rw (lt-leb (h .0 .1 .0) mostGates (omega arith), and-false))
+    header-range (now (a .text)) (a .cursor) (one .result) (one .ensures .0) _ _ (got .1) _ _ _ (h .1) (rw (lt-leb (h .0 .1 .0) mostGates (omega arith), and-false))
 
 returns-5 : tie.Need-returns-5
 returns-5 c =
@@ -62,7 +62,7 @@ returns-5 c =
     let one = c .before .before .before .before .before .before .before .before .before .read-line in
     let got = c .before .before .before .before .before .before .before .got .given in
     let h = c .before .before .before .before .frame .given in
-    header-range (now (a .text)) (a .cursor) (got .0 .0) (got .0 .1 .0) (rw (got .1) at (one .ensures .0)) _ _ _ (h .1) (rw (le-ltb 0 (h .0 .1 .1 .0) (omega arith), and-false))
+    header-range (now (a .text)) (a .cursor) (one .result) (one .ensures .0) _ _ (got .1) _ _ _ (h .1) (rw (le-ltb 0 (h .0 .1 .1 .0) (omega arith), and-false))
 
 returns-6 : tie.Need-returns-6
 returns-6 c =
@@ -70,7 +70,7 @@ returns-6 c =
     let one = c .before .before .before .before .before .before .before .before .before .before .read-line in
     let got = c .before .before .before .before .before .before .before .before .got .given in
     let h = c .before .before .before .before .before .frame .given in
-    header-range (now (a .text)) (a .cursor) (got .0 .0) (got .0 .1 .0) (rw (got .1) at (one .ensures .0)) _ _ _ (h .1) (rw (lt-leb (h .0 .1 .1 .0) mostOutputs (omega arith), and-false))
+    header-range (now (a .text)) (a .cursor) (one .result) (one .ensures .0) _ _ (got .1) _ _ _ (h .1) (rw (lt-leb (h .0 .1 .1 .0) mostOutputs (omega arith), and-false))
 
 cast-t17 : tie.Need-cast-t17
 cast-t17 c = search needs
@@ -87,7 +87,7 @@ returns-7 c =
     let one = c .before .before .before .before .before .before .before .before .before .before .read-line in
     let got = c .before .before .before .before .before .before .before .before .got .given in
     let h = c .before .before .before .before .before .frame .given in
-    header-read (now (a .text)) (a .cursor) (got .0 .0) (got .0 .1 .0) (rw (got .1) at (one .ensures .0)) _ _ _ (h .1) (omega arith) (omega arith) (omega arith) (omega arith) ((rw (got .1) at (one .ensures .1)) .0)
+    header-read (now (a .text)) (a .cursor) (one .result) (one .ensures .0) _ _ (got .1) _ _ _ (h .1) (omega arith) (omega arith) (omega arith) (omega arith) ((rw (got .1) at (one .ensures .1)) .0)
 
 pub read-header-spec : {M : Type 1} → statement M
 read-header-spec =
