@@ -1,7 +1,8 @@
 -- Clauses in the store: what a stored clause has at each place, and a clause put there place by place.
 use Prim.Native.Nat.{ℕ, zero, suc, _+_, _-_, _%_, _<_, _≤_}
-use mathlib.Core.Path.{_≡_, refl}
+use mathlib.Core.Path.{_≡_, refl, sym}
 use mathlib.Core.List.{List, [], _∷_, _++_, map}
+use native.Mathlib.Nat.{not-suc-le-zero, le-of-suc-le-suc}
 use native.Mathlib.Numerals.{add-one}
 use native.Mathlib.Omega.{arith}
 use lib.ListN.{length, drop, getD, set, replicate, length-append, length-map, length-replicate}
@@ -9,7 +10,7 @@ use lib.Seq.{drop-nil, drop-cons, sets}
 use Rattle.model.specs.Limits.{clauseWidth}
 use Rattle.model.specs.Clauses.{Clause}
 use Rattle.model.specs.Checker.{stored}
-use Rattle.clause.specs.Sets.{headOf, Rising}
+use Rattle.clause.specs.Sets.{literalBound, headOf, Rising}
 use Rattle.clause.proofs.SetLaws.{head-below}
 
 pub stored-length : (c : Clause) → length c ≤ clauseWidth → length (stored c) ≡ clauseWidth
@@ -26,6 +27,31 @@ zeros-at zero zero = refl
 zeros-at zero (suc i) = refl
 zeros-at (suc n) zero = refl
 zeros-at (suc n) (suc i) = zeros-at n i
+
+-- ---- what stands for a literal
+
+some-at : (n i : ℕ) (c : Clause) → i < length c → getD c i 0 + 1 ≡ getD (map suc c ++ replicate n 0) i 0
+some-at n zero [] h = absurd (not-suc-le-zero h)
+some-at n zero (x ∷ c) h = add-one x
+some-at n (suc i) [] h = absurd (not-suc-le-zero h)
+some-at n (suc i) (x ∷ c) h = some-at n i c (le-of-suc-le-suc h)
+
+none-at : (n i : ℕ) (c : Clause) → length c ≤ i → 0 ≡ getD (map suc c ++ replicate n 0) i 0
+none-at n i [] h = sym (zeros-at n i)
+none-at n zero (x ∷ c) h = absurd (not-suc-le-zero h)
+none-at n (suc i) (x ∷ c) h = none-at n i c (le-of-suc-le-suc h)
+
+pub entry-some : (i : ℕ) (c : Clause) → i < length c → getD c i 0 + 1 ≡ getD (stored c) i 0
+entry-some i c h = some-at (clauseWidth - length c) i c h
+
+pub entry-none : (i : ℕ) (c : Clause) → length c ≤ i → 0 ≡ getD (stored c) i 0
+entry-none i c h = none-at (clauseWidth - length c) i c h
+
+pub literal-below : (i : ℕ) (c : Clause) → i < length c → Rising c → getD c i 0 < literalBound
+literal-below zero [] h r = absurd (not-suc-le-zero h)
+literal-below zero (x ∷ c) h r = head-below x c r
+literal-below (suc i) [] h r = absurd (not-suc-le-zero h)
+literal-below (suc i) (x ∷ c) h r = literal-below i c (le-of-suc-le-suc h) (r .1)
 
 -- the number at a place is the literal there plus one in 16 bits, so that the bound past the end gives 0
 pub number-at : (c : Clause) (i : ℕ) → Rising c → getD (stored c) i 0 ≡ (headOf (drop i c) + 1) % 65536

@@ -9,6 +9,7 @@ use clause::resolution::Outcome;
 use clause::resolution::Resolved;
 use clause::resolution::resolve;
 use clause::store::save;
+use clause::store::save_resolvent;
 use frame::Op;
 use literal::Literal;
 use netlist::Refusal;
@@ -146,7 +147,7 @@ fn push_resolvent(
     if clauses == room {
         return Stepped::Refused(Refusal { number: 14, line });
     }
-    save(store, clauses, resolvent);
+    save_resolvent(store, clauses, resolvent);
     Stepped::Done(Progress {
         clauses: clauses + 1,
         next: p.next,

@@ -13,15 +13,15 @@ use Rattle.steps.proofs.push_resolvent.Statement.{statement}
 use Rattle.steps.proofs.push_resolvent.Tie as tie
 use Rattle.steps.proofs.push_resolvent.Reads as reads
 use Rattle.steps.proofs.push_resolvent.Lts as lts
-use Rattle.clause.proofs.store.save.Reads as save-reads
+use Rattle.clause.proofs.store.save_resolvent.Reads as save-resolvent-reads
 
 returns : tie.Need-returns
 returns c s t =
     let a = c .before .before .args in
     full (a .room) (a .line) s (literalsOf (a .resolvent)) (omega (arith, t .clauses))
 
-save-requires : tie.Need-save-requires
-save-requires c κs =
+save-resolvent-requires : tie.Need-save-resolvent-requires
+save-resolvent-requires c κs =
     let w = c .before .before .before .pre in
     (omega (arith, w .0 .numbers-for-all, w .0 .clauses), w .1, w .2)
 
@@ -39,7 +39,7 @@ returns-2 c s t =
     let a = c .before .before .before .before .before .before .before .before .args in
     let w = c .before .before .before .before .before .before .before .before .pre in
     let r = literalsOf (a .resolvent) in
-    let g = c .before .before .before .before .save in
+    let g = c .before .before .before .before .save-resolvent in
     let h : Proper r = record { rising = w .2; width = omega (arith, w .1 .size, w .1 .room) } in
     let q = joined-tracks r (a .resolvent .len) (clauseWidth * a .p .clauses) t h (w .1 .size) refl (omega (arith, w .0 .numbers-for-all, w .0 .clauses)) in
     let q′ : Tracks (g .last .0) (record { clauses = a .p .clauses + 1; next = a .p .next; steps = a .p .steps + 1; empty = eqb (a .resolvent .len) 0 }) (joined r s) =
@@ -59,4 +59,4 @@ returns-2 c s t =
     )
 
 pub push-resolvent-spec : {M : Type 1} → statement M
-push-resolvent-spec = tie.close (tie.spec returns save-requires add-t12 add-t13 same-length returns-2)
+push-resolvent-spec = tie.close (tie.spec returns save-resolvent-requires add-t12 add-t13 same-length returns-2)

@@ -1,48 +1,40 @@
--- The invariant: the store with what is left of the stored clause put in is the old store with the whole of it put in. The number for each
--- place is the stored clause's there (`number-at`).
+-- The invariant: the store with what is left of the stored clause put in is the old store with the whole of it put in.
 use native.Mathlib.Nat.{add-zero}
 use native.Mathlib.Omega.{arith}
 use borrow.Author.Needs.{needs}
 use Prim.Native.Nat.{_≤_, _+_, _-_}
-use mathlib.Core.Path.{_≡_, refl, sym, _∙_}
+use mathlib.Core.Path.{_≡_, refl, _∙_, sym}
 use lib.ListN.{length, drop, length-set, drop-of-length-le}
 use lib.Seq.{sets}
 use Rattle.model.specs.Limits.{clauseWidth}
 use Rattle.model.specs.Checker.{stored}
 use Rattle.clause.specs.Sets.{literalsOf}
-use Rattle.clause.proofs.StoreLaws.{stored-length, store-next, number-at}
-use Rattle.clause.proofs.PlaceLaws.{filled-at}
+use Rattle.clause.proofs.StoreLaws.{stored-length, store-next}
 use Rattle.clause.proofs.store.save.Statement.{statement}
 use Rattle.clause.proofs.store.save.Tie as tie
 use Rattle.clause.proofs.store.save.Reads as reads
 use Rattle.clause.proofs.store.save.Lts as lts
-use Rattle.clause.proofs.store.number.Reads as number-reads
+use Rattle.clause.proofs.store.entry.Reads as entry-reads
 
 abbrev Inv-loop : tie.InvT-loop
-Inv-loop store₀ k clause at i₀ store i =
-    (i ≤ clauseWidth) × (length store ≡ length store₀) × (length (stored (literalsOf clause)) ≡ clauseWidth)
-    × (sets store (at + i) (drop i (stored (literalsOf clause))) ≡ sets store₀ at (stored (literalsOf clause)))
+Inv-loop store₀ k c at i₀ store i =
+    (i ≤ clauseWidth) × (length store ≡ length store₀) × (length (stored (literalsOf c)) ≡ clauseWidth)
+    × (sets store (at + i) (drop i (stored (literalsOf c))) ≡ sets store₀ at (stored (literalsOf c)))
 
 abbrev μ-loop : tie.MeasureT-loop
-μ-loop store₀ k clause at i₀ store i = clauseWidth - i
+μ-loop store₀ k c at i₀ store i = clauseWidth - i
 
 mul-at : tie.Need-mul-at Inv-loop μ-loop
 mul-at c = search needs
 
 loop-holds : tie.Need-loop-holds Inv-loop μ-loop
 loop-holds c =
-    let h = c .before .pre .1 in
-    let n : length (literalsOf (c .before .args .t3)) ≤ clauseWidth = omega (arith, h .size, h .room) in
-    (omega arith, refl, stored-length (literalsOf (c .before .args .t3)) n, rw add-zero)
+    let a = c .before .args in
+    let h : length (literalsOf (a .clause)) ≤ clauseWidth = omega (arith, c .before .pre .1 .size, c .before .pre .1 .room) in
+    (omega arith, refl, stored-length (literalsOf (a .clause)) h, rw add-zero)
 
-mul-number : tie.Need-mul-number Inv-loop μ-loop
-mul-number c = search needs
-
-element-copy-out-number : tie.Need-element-copy-out-number Inv-loop μ-loop
-element-copy-out-number c = search needs
-
-number-requires : tie.Need-number-requires Inv-loop μ-loop
-number-requires c κs = search needs
+entry-requires : tie.Need-entry-requires Inv-loop μ-loop
+entry-requires c κs = let p = c .before .before .before .pre in (p .1 .room, c .loop-test .taken, p .2)
 
 add-store : tie.Need-add-store Inv-loop μ-loop
 add-store c = search needs
@@ -61,15 +53,12 @@ loop-less c = search needs
 
 loop-again : tie.Need-loop-again Inv-loop μ-loop
 loop-again c =
-    let a = c .before .before .before .before .before .args in
-    let p = c .before .before .before .before .before .pre in
-    let l = c .before .before .before .loop in
-    let literals = literalsOf (a .t3) in
-    let e = rw (p .1 .whole, filled-at clauseWidth (l .i) literals (omega arith)) at (c .number .ensures) in (
+    let a = c .before .before .before .before .args in
+    let l = c .before .before .loop in (
       omega arith,
       simp length-set (l .inv .1),
       l .inv .2,
-      store-next (l .store) (stored literals) _ (l .i) _ (omega arith) (number-at literals (l .i) (p .2) ∙ sym e) ∙ l .inv .3,
+      store-next (l .store) (stored (literalsOf (a .clause))) _ (l .i) _ (omega arith) (sym (c .entry .ensures)) ∙ l .inv .3,
     )
 
 same-length : tie.Need-same-length Inv-loop μ-loop
@@ -79,7 +68,7 @@ returns : tie.Need-returns Inv-loop μ-loop
 returns c =
     let l = c .before .loop in
     let a = c .before .before .before .args in
-    rw (drop-of-length-le (stored (literalsOf (a .t3))) {i = l .i} (omega arith)) at (l .inv .3)
+    rw (drop-of-length-le (stored (literalsOf (a .clause))) {i = l .i} (omega arith)) at (l .inv .3)
 
 pub save-spec : {M : Type 1} → statement M
 save-spec =
@@ -89,9 +78,7 @@ save-spec =
     μ-loop
     mul-at
     loop-holds
-    mul-number
-    element-copy-out-number
-    number-requires
+    entry-requires
     add-store
     mul-store
     slice-write-store
