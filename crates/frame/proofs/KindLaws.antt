@@ -1,18 +1,16 @@
 -- Laws of looking at a line: its digits run from its kind through its fields to LF, so that it is decoded as the table has it; where the run stops
 -- before, or LF stands elsewhere, the line has another length than its kind and is refused.
-use Prim.Native.Nat.{ℕ, zero, suc, _+_, _-_, _<_, _≤_}
+use Prim.Native.Nat.{ℕ, zero, suc, _+_, _<_, _≤_}
 use mathlib.Core.Path.{_≡_, refl, sym, ap, _∙_}
 use mathlib.Core.List.{List, [], _∷_}
-use mathlib.Core.Bool.{Bool, true, false, cond}
+use mathlib.Core.Bool.{Bool, true, false}
 use native.Mathlib.Omega.{arith}
 use lib.ListN.{length, take, drop, getD, length-drop}
 use lib.Seq.{length-take-le, drop-drop}
-use lib.Dec.{ltb, eqb}
-use borrow.Author.Tests.{ltb-true, ltb-false, eqb-true, eqb-false}
+use lib.Dec.{ltb}
+use borrow.Author.Tests.{ltb-true, ltb-false}
 use Rattle.model.specs.Answers.Answer.{refused}
-use Rattle.model.specs.Lines as model-line
-use Rattle.model.specs.Lines.{isDigit, lineFeed, lines}
-use Rattle.model.specs.Frames as model
+use Rattle.model.specs.Lines.{lineFeed, lines}
 use Rattle.model.specs.Frames.{widths, isKind, total, number, oneByte, twoBytes, decode}
 use Rattle.digits.specs.Digits.{valueOf, values, run, numberAt, byteLimit, Spelt}
 use Rattle.digits.proofs.DigitLaws.{run-stop}
@@ -28,8 +26,7 @@ use Rattle.frame.specs.Frames.{gateKind, extendKind, frameOf, first, Ins
 use Rattle.frame.specs.Frames.First.{found}
 use Rattle.frame.specs.Kinds.{KindAt, Feeds, Unframed, Looked}
 use Rattle.frame.proofs.DecodeLaws.{fieldsAt, whole, wrong-length, no-kind, short}
-use Rattle.frame.proofs.FirstLaws.{none-found, found-fault}
-use Rattle.frame.proofs.LineLaws.{read-end, read-open, read-other, read-whole, read-unframed}
+use Rattle.frame.proofs.LineLaws.{read-whole}
 
 -- ---- numbers of a line are those of the text
 
@@ -166,31 +163,6 @@ module _ (text : List ℕ) (c : Cursor) {look : Look} (h : Looked text (c .at) l
   -- or it has none
   pub look-unframed : look ≡ Other → Unframed text (c .at)
   look-unframed e = rw e at h
-
-run-length : (s : List ℕ) → run s ≤ length s
-run-length [] = omega arith
-run-length (b ∷ s) = go (isDigit b) (run-length s)
-  where
-    go : (t : Bool) → run s ≤ length s → cond t (suc (run s)) 0 ≤ suc (length s)
-    go true h = omega arith
-    go false h = omega arith
-
--- then no frame is found there
-pub none-found-at : (text : List ℕ) (at line : ℕ) {f : model.Frame} {ls : List model-line.Line} {next : ℕ} → at ≤ length text → Unframed text at
-    → first (lines (drop at text)) line ≡ found f ls next → ⊥
-none-found-at text at line {f} {ls} {next} h u e = go (ltb at (length text)) (eqb (at + run (drop at text)) (length text)) (eqb (getD text (at + run (drop at text)) 0) lineFeed) refl refl refl
-  where
-    go : (s t v : Bool) → ltb at (length text) ≡ s → eqb (at + run (drop at text)) (length text) ≡ t → eqb (getD text (at + run (drop at text)) 0) lineFeed ≡ v → ⊥
-    go false t v p q r = none-found (sym (read-end text at line _ refl (ltb-false at (length text) p)) ∙ e)
-    go true true v p q r = found-fault (sym e ∙ read-open text at line _ refl (ltb-true at (length text) p) (eqb-true _ _ q))
-    go true false v p q r =
-        let l : run (drop at text) ≤ length text - at = rw length-drop at (run-length (drop at text)) in
-        let m : at + run (drop at text) < length text = omega (arith, eqb-false (at + run (drop at text)) (length text) q, ltb-true at (length text) p) in
-        feed v r m
-      where
-        feed : (v : Bool) → eqb (getD text (at + run (drop at text)) 0) lineFeed ≡ v → at + run (drop at text) < length text → ⊥
-        feed true r m = found-fault (sym e ∙ sym (read-unframed text at line _ refl m (eqb-true _ _ r) u))
-        feed false r m = found-fault (sym e ∙ read-other text at line _ refl m (eqb-false _ _ r))
 
 -- where none was read the cursor is not farther on
 pub nowhere : (text : List ℕ) (at : ℕ) (got : Line) → NoFrame got → Ahead text at got
