@@ -1,5 +1,5 @@
 // One resolution step (document 01, 'Steps') on two clauses as `save` leaves them in the store. Each is copied without its pivot, and the copies
-// are joined. No branch asks where a pivot stands, which of two literals is lower or where a clause ends, since such branches are mispredicted.
+// are joined. No branch asks where a pivot stands, which of two literals is lower or where a long clause ends: such branches are mispredicted.
 use crate::Clause;
 use literal::Literal;
 ghost use mathlib.Core.Path.{_≡_};
