@@ -22,9 +22,9 @@ use Rattle.frame.specs.declared.Line.{Line}
 use Rattle.frame.specs.declared.Line.the-variants.{Read, End, Refused}
 use Rattle.frame.specs.declared.kinds.Look.{Look}
 use Rattle.frame.specs.declared.kinds.Look.the-variants.{Is, Other}
-use Rattle.frame.specs.Frames.{gateKind, extendKind, frameOf, first, Inside, Ahead, NoFrame}
+use Rattle.frame.specs.Frames.{frameOf, first, Inside, Ahead, NoFrame}
 use Rattle.frame.specs.Frames.First.{found}
-use Rattle.frame.specs.Kinds.{KindAt, Feeds, Unframed, Looked}
+use Rattle.frame.specs.Kinds.{operandsKind, KindAt, Feeds, Unframed, Looked}
 use Rattle.frame.proofs.DecodeLaws.{fieldsAt, whole, wrong-length, no-kind, short}
 use Rattle.frame.proofs.LineLaws.{read-whole}
 
@@ -119,15 +119,12 @@ module _ (text : List ℕ) (at : ℕ) {kind : ℕ} (ws : List ℕ) (k : KindAt t
   stopped h = other-length (λ n q e _ _. omega arith)
 
 -- both kinds of a gate, and both of an extension, have two literals
-pub gate-widths : (op : Op) → widths (gateKind op) ≡ twoBytes ∷ twoBytes ∷ []
+pub operands-widths : (extends : Bool) (op : Op) → widths (operandsKind extends op) ≡ twoBytes ∷ twoBytes ∷ []
 unfolding widths
-gate-widths And = refl
-gate-widths Xor = refl
-
-pub extend-widths : (op : Op) → widths (extendKind op) ≡ twoBytes ∷ twoBytes ∷ []
-unfolding widths
-extend-widths And = refl
-extend-widths Xor = refl
+operands-widths false And = refl
+operands-widths false Xor = refl
+operands-widths true And = refl
+operands-widths true Xor = refl
 
 -- ---- the kind
 

@@ -8,10 +8,16 @@ use Rattle.model.specs.Answers.Answer.{refused}
 use Rattle.model.specs.Lines.{lineFeed, lines}
 use Rattle.model.specs.Frames.{oneByte, decode}
 use Rattle.digits.specs.Digits.{values, run, numberAt}
-use Rattle.frame.specs.Frames.{first, frameOf}
+use Rattle.frame.specs.declared.Op.{Op}
+use Rattle.frame.specs.Frames.{gateKind, extendKind, first, frameOf}
 use Rattle.frame.specs.Frames.First.{found}
 use Rattle.frame.specs.declared.kinds.Look.{Look}
 use Rattle.frame.specs.declared.kinds.Look.the-variants.{Is, Other}
+
+-- the kind of a gate, or of an extension
+abbrev pub operandsKind : Bool → Op → ℕ
+operandsKind false op = gateKind op
+operandsKind true op = extendKind op
 
 -- the first two digits at a place spell this kind
 pub record KindAt (text : List ℕ) (at kind : ℕ) : Type 0 where

@@ -11,8 +11,7 @@ use digits::read::word_at;
 ghost use Prim.Native.Nat.{_<_, _≤_};
 ghost use lib.ListN.{length};
 ghost use Rattle.model.specs.Frames.{headerKind, outputKind, resolveKind, reportKind};
-ghost use Rattle.frame.specs.Frames.{gateKind, extendKind};
-ghost use Rattle.frame.specs.Kinds.{KindAt, Feeds, Looked};
+ghost use Rattle.frame.specs.Kinds.{operandsKind, KindAt, Feeds, Looked};
 
 // The bytes of each line, its LF counted.
 pub const HEADER_BYTES: usize = 11;
@@ -73,29 +72,28 @@ fn header_at(text: &[u8], at: usize) -> Look
     )
 }
 
-fn gate_at(text: &[u8], at: usize, op: Op) -> Look
-    requires { ⌜ KindAt (now text) at (gateKind op) ⌝ }
+// A gate's line, or an extension's, which have the same fields.
+fn operands_at(text: &[u8], at: usize, extends: bool, op: Op) -> Look
+    requires { ⌜ KindAt (now text) at (operandsKind extends op) ⌝ }
     ensures { λ r. ⌜ Looked (now (text .entry)) at r ⌝ }
 {
     if !feeds(text, at, GATE_BYTES) {
         return Look::Other;
     }
-    let x = word_at(text, at + 2);
-    if NO_WORD <= x {
+    let first = word_at(text, at + 2);
+    if NO_WORD <= first {
         return Look::Other;
     }
-    let y = word_at(text, at + 6);
-    if NO_WORD <= y {
+    let second = word_at(text, at + 6);
+    if NO_WORD <= second {
         return Look::Other;
     }
-    Look::Is(
-        Frame::Gate {
-            op,
-            x: x as u16,
-            y: y as u16,
-        },
-        at + GATE_BYTES,
-    )
+    let x = first as u16;
+    let y = second as u16;
+    if extends {
+        return Look::Is(Frame::Extend { op, x, y }, at + EXTEND_BYTES);
+    }
+    Look::Is(Frame::Gate { op, x, y }, at + GATE_BYTES)
 }
 
 fn output_at(text: &[u8], at: usize) -> Look
@@ -146,31 +144,6 @@ fn resolve_at(text: &[u8], at: usize) -> Look
     )
 }
 
-fn extend_at(text: &[u8], at: usize, op: Op) -> Look
-    requires { ⌜ KindAt (now text) at (extendKind op) ⌝ }
-    ensures { λ r. ⌜ Looked (now (text .entry)) at r ⌝ }
-{
-    if !feeds(text, at, EXTEND_BYTES) {
-        return Look::Other;
-    }
-    let x = word_at(text, at + 2);
-    if NO_WORD <= x {
-        return Look::Other;
-    }
-    let y = word_at(text, at + 6);
-    if NO_WORD <= y {
-        return Look::Other;
-    }
-    Look::Is(
-        Frame::Extend {
-            op,
-            x: x as u16,
-            y: y as u16,
-        },
-        at + EXTEND_BYTES,
-    )
-}
-
 fn report_at(text: &[u8], at: usize) -> Look
     requires { ⌜ KindAt (now text) at reportKind ⌝ }
     ensures { λ r. ⌜ Looked (now (text .entry)) at r ⌝ }
@@ -216,12 +189,12 @@ pub fn frame_at(text: &[u8], at: usize) -> Look
     let kind = byte_at(text, at);
     match kind {
         0x01 => header_at(text, at),
-        0x02 => gate_at(text, at, Op::And),
-        0x03 => gate_at(text, at, Op::Xor),
+        0x02 => operands_at(text, at, false, Op::And),
+        0x03 => operands_at(text, at, false, Op::Xor),
         0x04 => output_at(text, at),
         0x11 => resolve_at(text, at),
-        0x12 => extend_at(text, at, Op::And),
-        0x13 => extend_at(text, at, Op::Xor),
+        0x12 => operands_at(text, at, true, Op::And),
+        0x13 => operands_at(text, at, true, Op::Xor),
         0x21 => report_at(text, at),
         _ => Look::Other,
     }

@@ -10,9 +10,8 @@ use Rattle.frame.proofs.kinds.frame_at.Tie as tie
 use Rattle.frame.proofs.kinds.frame_at.Reads as reads
 use Rattle.frame.proofs.kinds.frame_at.Lts as lts
 use Rattle.digits.proofs.read.byte_at.Reads as byte-at-reads
-use Rattle.frame.proofs.kinds.extend_at.Reads as extend-at-reads
-use Rattle.frame.proofs.kinds.gate_at.Reads as gate-at-reads
 use Rattle.frame.proofs.kinds.header_at.Reads as header-at-reads
+use Rattle.frame.proofs.kinds.operands_at.Reads as operands-at-reads
 use Rattle.frame.proofs.kinds.output_at.Reads as output-at-reads
 use Rattle.frame.proofs.kinds.report_at.Reads as report-at-reads
 use Rattle.frame.proofs.kinds.resolve_at.Reads as resolve-at-reads
@@ -29,11 +28,11 @@ byte-at-requires c κs = search needs
 header-at-requires : tie.Need-header-at-requires
 header-at-requires c κs = known _ _ _ (omega arith) (c .before .byte-at .ensures) (c .match .keys1) (omega arith)
 
-gate-at-requires : tie.Need-gate-at-requires
-gate-at-requires c κs = known _ _ _ (omega arith) (c .before .byte-at .ensures) (c .match .keys2) (omega arith)
+operands-at-requires : tie.Need-operands-at-requires
+operands-at-requires c κs = known _ _ _ (omega arith) (c .before .byte-at .ensures) (c .match .keys2) (omega arith)
 
-gate-at-requires-2 : tie.Need-gate-at-requires-2
-gate-at-requires-2 c κs = known _ _ _ (omega arith) (c .before .byte-at .ensures) (c .match .keys3) (omega arith)
+operands-at-requires-2 : tie.Need-operands-at-requires-2
+operands-at-requires-2 c κs = known _ _ _ (omega arith) (c .before .byte-at .ensures) (c .match .keys3) (omega arith)
 
 output-at-requires : tie.Need-output-at-requires
 output-at-requires c κs = known _ _ _ (omega arith) (c .before .byte-at .ensures) (c .match .keys4) (omega arith)
@@ -41,11 +40,11 @@ output-at-requires c κs = known _ _ _ (omega arith) (c .before .byte-at .ensure
 resolve-at-requires : tie.Need-resolve-at-requires
 resolve-at-requires c κs = known _ _ _ (omega arith) (c .before .byte-at .ensures) (c .match .keys5) (omega arith)
 
-extend-at-requires : tie.Need-extend-at-requires
-extend-at-requires c κs = known _ _ _ (omega arith) (c .before .byte-at .ensures) (c .match .keys6) (omega arith)
+operands-at-requires-3 : tie.Need-operands-at-requires-3
+operands-at-requires-3 c κs = known _ _ _ (omega arith) (c .before .byte-at .ensures) (c .match .keys6) (omega arith)
 
-extend-at-requires-2 : tie.Need-extend-at-requires-2
-extend-at-requires-2 c κs = known _ _ _ (omega arith) (c .before .byte-at .ensures) (c .match .keys7) (omega arith)
+operands-at-requires-4 : tie.Need-operands-at-requires-4
+operands-at-requires-4 c κs = known _ _ _ (omega arith) (c .before .byte-at .ensures) (c .match .keys7) (omega arith)
 
 report-at-requires : tie.Need-report-at-requires
 report-at-requires c κs = known _ _ _ (omega arith) (c .before .byte-at .ensures) (c .match .keys8) (omega arith)
@@ -90,12 +89,12 @@ frame-at-spec =
     returns
     byte-at-requires
     header-at-requires
-    gate-at-requires
-    gate-at-requires-2
+    operands-at-requires
+    operands-at-requires-2
     output-at-requires
     resolve-at-requires
-    extend-at-requires
-    extend-at-requires-2
+    operands-at-requires-3
+    operands-at-requires-4
     report-at-requires
     returns-2
     returns-3
