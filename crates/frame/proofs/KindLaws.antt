@@ -45,15 +45,15 @@ take-part (b ∷ l) (suc n) zero (suc w) h = ap (λ (t : List ℕ). valueOf b �
 take-part (b ∷ l) (suc n) (suc k) w h = take-part l n k w (omega arith)
 
 module _ (text : List ℕ) (at n : ℕ) where
-  part-long : at + n < length text → length (take n (drop at text)) ≡ n
+  pub part-long : at + n < length text → length (take n (drop at text)) ≡ n
   part-long h = length-take-le n (drop at text) (rw length-drop (omega arith))
 
-  part-number : (k w : ℕ) → k + w ≤ n → numberAt (take n (drop at text)) k w ≡ numberAt text (at + k) w
+  pub part-number : (k w : ℕ) → k + w ≤ n → numberAt (take n (drop at text)) k w ≡ numberAt text (at + k) w
   unfolding numberAt
   part-number k w h =
       ap (number 0) (take-part (drop at text) n k w h ∙ rw (values-drop at text, drop-drop k at (values text)))
 
-  part-fields : (ws : List ℕ) (k : ℕ) → k + total ws ≤ n → fieldsAt (take n (drop at text)) k ws ≡ fieldsAt text (at + k) ws
+  pub part-fields : (ws : List ℕ) (k : ℕ) → k + total ws ≤ n → fieldsAt (take n (drop at text)) k ws ≡ fieldsAt text (at + k) ws
   unfolding total
   part-fields [] k h = refl
   part-fields (w ∷ ws) k h =

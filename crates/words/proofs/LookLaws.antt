@@ -1,16 +1,14 @@
 -- Laws of the quick reading: the bytes of a kind, and a line of words, whose digits run from its kind
 -- to LF, so that it is decoded as the table has it.
-use Prim.Native.Nat.{ℕ, zero, suc, _+_, _*_, _/_, _%_, _<_, _≤_}
+use Prim.Native.Nat.{ℕ, zero, suc, _+_, _*_, _<_, _≤_}
 use mathlib.Core.Path.{_≡_, refl, sym, _∙_}
 use mathlib.Core.List.{List, [], _∷_}
 use mathlib.Core.Bool.{Bool, true, false}
 use native.Mathlib.Omega.{arith}
-use lib.ListN.{length, take, drop, getD, length-drop}
-use lib.Seq.{getD-take, getD-drop, length-take-le}
-use lib.Bits.{bitAnd}
+use lib.ListN.{length, take, drop, getD}
 use lib.Dec.{eqb}
 use borrow.Author.Tests.{eqb-true, eqb-false}
-use Rattle.model.specs.Lines.{isDigit, digitOf, lineFeed, lines}
+use Rattle.model.specs.Lines.{isDigit, lineFeed, lines}
 use Rattle.model.specs.Frames.{widths, isKind, total, andKind, xorKind, oneByte, twoBytes}
 use Rattle.digits.specs.Digits.{valueOf, run, numberAt, wordLimit, Spelt}
 use Rattle.frame.specs.Frames.{first, gateKind, frameOf, Inside}
@@ -21,8 +19,9 @@ use Rattle.frame.specs.declared.Frame.{Frame}
 use Rattle.frame.specs.declared.Op.{Op}
 use Rattle.words.specs.declared.read.Look.{Look}
 use Rattle.words.specs.declared.read.Look.the-variants.{Is}
-use Rattle.digits.proofs.DigitLaws.{run-more, run-stop, byte-number, word-number}
+use Rattle.digits.proofs.DigitLaws.{run-more, run-stop, byte-number}
 use Rattle.frame.proofs.DecodeLaws.{fieldsAt, whole}
+use Rattle.frame.proofs.KindLaws.{part-long, part-number, part-fields}
 use Rattle.frame.proofs.LineLaws.{read-whole}
 
 -- ---- a kind
@@ -64,32 +63,6 @@ unfolding total
 total-words zero = refl
 total-words (suc m) = let e = total-words m in omega arith
 
--- numbers of a line are those of the text
-module _ (text : List ℕ) (at n : ℕ) (r : at + n ≤ length text) where
-  part-long : length (take n (drop at text)) ≡ n
-  part-long = length-take-le n (drop at text) (rw length-drop (omega arith))
-
-  part-at : (k : ℕ) → k < n → getD (take n (drop at text)) k 0 ≡ getD text (at + k) 0
-  part-at k h = getD-take n (drop at text) k 0 h ∙ getD-drop at text k 0
-
-  part-byte : (k : ℕ) → k + 2 ≤ n → numberAt (take n (drop at text)) k oneByte ≡ numberAt text (at + k) oneByte
-  part-byte k h =
-      let e : at + (k + 1) ≡ at + k + 1 = omega arith in
-      byte-number (take n (drop at text)) k (omega (arith, part-long))
-      ∙ rw (part-at k (omega arith), part-at (k + 1) (omega arith), e) (sym (byte-number text (at + k) (omega arith)))
-
-  part-word : (k : ℕ) → k + 4 ≤ n → numberAt (take n (drop at text)) k twoBytes ≡ numberAt text (at + k) twoBytes
-  part-word k h =
-      let e : at + (k + 2) ≡ at + k + 2 = omega arith in
-      word-number (take n (drop at text)) k (omega (arith, part-long))
-      ∙ rw (part-byte k (omega arith), part-byte (k + 2) (omega arith), e) (sym (word-number text (at + k) (omega arith)))
-
-  part-fields : (m k : ℕ) → k + 4 * m ≤ n → fieldsAt (take n (drop at text)) k (words m) ≡ fieldsAt text (at + k) (words m)
-  part-fields zero k h = refl
-  part-fields (suc m) k h =
-      let e : at + (k + 4) ≡ at + k + 4 = omega arith in
-      rw (part-word k (omega arith), part-fields m (k + 4) (omega arith), e)
-
 -- numbers that four digits each spell, one behind the other
 abbrev pub AllWords : List ℕ → ℕ → List ℕ → Type 0
 AllWords text at [] = Unit {0}
@@ -119,8 +92,8 @@ module _ (text : List ℕ) (at kind : ℕ) (rs : List ℕ) (k : Kind text at kin
       let runs : n ≡ run (drop at text) = omega (arith, k .goes) in
       let l : length (take n (drop at text)) ≡ oneByte + total (widths kind) = rw (part-long text at n (omega arith), w, total-words (length rs)) q in
       let y : at + 0 ≡ at = omega arith in
-      let s : kind ≡ numberAt (take n (drop at text)) 0 oneByte = k .spelt ∙ sym (rw y at (part-byte text at n (omega arith) 0 (omega arith))) in
-      let f : fieldsAt (take n (drop at text)) oneByte (widths kind) ≡ rs = rw w (part-fields text at n (omega arith) (length rs) 2 (omega arith) ∙ spelt-fields text (at + 2) rs h) in
+      let s : kind ≡ numberAt (take n (drop at text)) 0 oneByte = k .spelt ∙ sym (rw y at (part-number text at n 0 oneByte (omega arith))) in
+      let f : fieldsAt (take n (drop at text)) oneByte (widths kind) ≡ rs = rw w (part-fields text at n (words (length rs)) 2 (omega (arith, total-words (length rs))) ∙ spelt-fields text (at + 2) rs h) in
       let d = whole (take n (drop at text)) line s refl some l in
       sym (read-whole text at line n runs (omega arith) e ∙ rw (← d, f))
 
