@@ -17,11 +17,11 @@ pub const MOST_CLAUSES: usize = 65535;
 fn capacity(numbers: usize) -> usize
     ensures { λ r. ⌜ r ≡ model.capacity numbers ⌝ }
 {
-    let eights = numbers / Clause::WIDTH;
-    if MOST_CLAUSES < eights {
+    let whole = numbers / Clause::WIDTH;
+    if MOST_CLAUSES < whole {
         return MOST_CLAUSES;
     }
-    eights
+    whole
 }
 
 // The verdict, with the clauses left in the store.
