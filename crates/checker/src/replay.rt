@@ -2,13 +2,13 @@
 use frame::Cursor;
 use frame::Frame;
 use frame::Line;
+use frame::kinds::Look;
 use frame::read_line;
 use netlist::Refusal;
 use steps::Progress;
 use steps::Stepped;
 use steps::extend_step;
 use steps::resolve_step;
-use words::read::Look;
 use words::read::look_resolve;
 ghost use mathlib.Core.Path.{_≡_};
 ghost use Rattle.model.specs.Steps as model;

@@ -1,5 +1,5 @@
 // The table of kinds (document 01, 'Lines on the wire'), as lines are read: the kind byte decides which frame is due, how long its line is and how
-// its fields are read. Each kind has one length and one function. No byte is looked at twice, and no loop goes over a line.
+// its fields are read. Each kind has one length and is read by one function. A line that has a frame is gone through once, without a loop.
 use crate::Frame;
 use crate::Op;
 use digits::read::NO_BYTE;

@@ -15,6 +15,7 @@ use Rattle.model.specs.Nets as nets
 use Rattle.model.specs.Nets.{Netlist, size, isBelow}
 use Rattle.model.specs.Lists.{isHeader, isGate, isOutput, inRange, gateOf, addGate, addOutput, emptyList, readOutputs, readGates, readList}
 use Rattle.frame.proofs.Frame as frame-type
+use Rattle.frame.proofs.Line as line-type
 use Rattle.frame.specs.declared.Cursor.{Cursor}
 use Rattle.frame.specs.declared.Op.{Op}
 use Rattle.frame.specs.declared.Op.the-variants.{And, Xor}
@@ -24,7 +25,7 @@ use Rattle.frame.specs.declared.Line.{Line}
 use Rattle.frame.specs.declared.Line.the-variants.{Read, End, Refused}
 use Rattle.frame.specs.Frames.{gateKind, frameOf, first, firstOf, Inside}
 use Rattle.frame.proofs.FirstLaws.{first-none, first-fault, first-found, Framed}
-use Rattle.netlist.specs.Says.{from, refusal, HeaderRead, GateRead, OutputRead}
+use Rattle.netlist.specs.Says.{from, refusal, answerOf, missingOf, HeaderRead, GateRead, OutputRead}
 use Rattle.netlist.proofs.DueLaws.{guard-passed, guard-failed, due-other, due-read, header-due, gate-due, output-due}
 
 -- what follows a test follows inside it
@@ -153,14 +154,12 @@ module _ (text : List ℕ) (c : Cursor) (got : Line) (e : firstOf text got ≡ f
   unfolding endAt
   end-none is = rw (first-none (from text c) (c .line) (rw is at e))
 
-  pub end-refused : (number place : ℕ) → got ≡ Refused number place → endAt (from text c) (c .line) ≡ refused number place
+  -- anything else is refused, and a frame is 3
+  pub end-other : OneOf (0 ∷ 2 ∷ []) (tagOf line-type.the-type got) → endAt (from text c) (c .line) ≡ answerOf (missingOf got (c .line))
   unfolding endAt
-  end-refused number place is =
-      let r = first-fault (from text c) (c .line) (rw is at e) in
-      rw (r .cut, r .refusal)
-
-  pub end-more : (f : Frame) (next : Cursor) → got ≡ Read f next → endAt (from text c) (c .line) ≡ refused 3 (c .line)
-  unfolding endAt
-  end-more f next is =
-      let r = first-found (from text c) (c .line) (rw is at e) in
-      rw (r .cut, r .frame)
+  end-other k = go got e k
+    where
+      go : (g : Line) → firstOf text g ≡ first (from text c) (c .line) → OneOf (0 ∷ 2 ∷ []) (tagOf line-type.the-type g) → endAt (from text c) (c .line) ≡ answerOf (missingOf g (c .line))
+      go (Read f next) e k = let r = first-found (from text c) (c .line) e in rw (r .cut, r .frame)
+      go End e k = absurd (miss (0 ∷ 2 ∷ []) 1 tt k)
+      go (Refused number place) e k = let r = first-fault (from text c) (c .line) e in rw (r .cut, r .refusal)

@@ -5,7 +5,6 @@ use mathlib.Core.Path.{_≡_, refl, _∙_}
 use mathlib.Core.List.{List}
 use native.Mathlib.Omega.{arith}
 use lib.ListN.{length-append}
-use Rattle.model.specs.Answers.Answer.{refused}
 use Rattle.model.specs.Nets.{Netlist, size}
 use Rattle.model.specs.Lists.{addGate, addOutput, readOutputs, readGates}
 use Rattle.frame.specs.declared.Cursor.{Cursor}

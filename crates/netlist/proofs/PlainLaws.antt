@@ -14,8 +14,8 @@ use Rattle.frame.specs.declared.Frame.{Frame}
 use Rattle.frame.specs.declared.Frame.the-variants.{Gate, Output}
 use Rattle.frame.specs.declared.Line.the-variants.{Read}
 use Rattle.frame.specs.Frames.{first as firstLine, firstOf, Inside}
-use Rattle.words.specs.declared.read.Look.{Look}
-use Rattle.words.specs.declared.read.Look.the-variants.{Is}
+use Rattle.frame.specs.declared.kinds.Look.{Look}
+use Rattle.frame.specs.declared.kinds.Look.the-variants.{Is}
 use Rattle.words.specs.Words.{Looked, Ends}
 use Rattle.netlist.specs.declared.Behind.{Behind}
 use Rattle.netlist.specs.declared.Behind.the-variants as behind-case

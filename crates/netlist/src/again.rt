@@ -4,6 +4,9 @@ use frame::Cursor;
 use frame::Frame;
 use frame::Line;
 use frame::Op;
+use frame::kinds::GATE_BYTES;
+use frame::kinds::HEADER_BYTES;
+use frame::kinds::OUTPUT_BYTES;
 use words::read::gate_line;
 use words::read::output_line;
 ghost use mathlib.Core.Path.{_≡_};
@@ -13,13 +16,6 @@ ghost use Rattle.model.specs.Limits.{mostGates, mostOutputs};
 ghost use Rattle.model.specs.Nets.{Netlist};
 ghost use Rattle.laws.specs.ListText.{Stands};
 ghost use Rattle.netlist.specs.Again.{opOf, gateMeant, noGate};
-
-// The bytes of each line of a list, its LF counted.
-pub const HEADER_BYTES: usize = 11;
-
-pub const GATE_BYTES: usize = 11;
-
-pub const OUTPUT_BYTES: usize = 7;
 
 pub struct Gate {
     pub op: Op,

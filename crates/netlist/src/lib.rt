@@ -4,10 +4,10 @@ pub mod again; // gates and outputs of a list that was read, by their place
 mod lines; // the lines of a list: header, gates, outputs, and the end
 mod plain; // gates and outputs in a row that are known at one look
 
-use again::GATE_BYTES;
-use again::HEADER_BYTES;
-use again::OUTPUT_BYTES;
 use frame::Cursor;
+use frame::kinds::GATE_BYTES;
+use frame::kinds::HEADER_BYTES;
+use frame::kinds::OUTPUT_BYTES;
 use lines::read_body;
 use lines::read_end;
 use lines::read_header;

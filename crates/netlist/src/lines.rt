@@ -4,13 +4,13 @@ use crate::Behind;
 use crate::Counts;
 use crate::Part;
 use crate::Refusal;
-use crate::again::GATE_BYTES;
-use crate::again::OUTPUT_BYTES;
 use crate::plain::plain_gates;
 use crate::plain::plain_outputs;
 use frame::Cursor;
 use frame::Frame;
 use frame::Line;
+use frame::kinds::GATE_BYTES;
+use frame::kinds::OUTPUT_BYTES;
 use frame::read_line;
 ghost use mathlib.Core.Path.{_≡_};
 ghost use Prim.Native.Nat.{_+_, _≤_};
@@ -205,9 +205,8 @@ pub fn read_end(text: &[u8], cursor: Cursor) -> Behind
 {
     let line = cursor.line;
     let got = read_line(text, cursor);
-    match got {
-        Line::End => Behind::At(cursor),
-        Line::Refused { number, line } => Behind::Refused(Refusal { number, line }),
-        Line::Read(_, _) => Behind::Refused(Refusal { number: 3, line }),
-    }
+    let Line::End = got else {
+        return Behind::Refused(missing(got, line));
+    };
+    Behind::At(cursor)
 }

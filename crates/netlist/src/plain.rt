@@ -1,9 +1,9 @@
 // Gates and outputs in a row that are known at one look (`words::read`) and read nets that they may. Long lists have no others, and no cursor is
 // built for them: how many there are says where they end.
-use crate::again::GATE_BYTES;
-use crate::again::OUTPUT_BYTES;
 use frame::Frame;
-use words::read::Look;
+use frame::kinds::GATE_BYTES;
+use frame::kinds::Look;
+use frame::kinds::OUTPUT_BYTES;
 use words::read::look_gate;
 use words::read::look_output;
 ghost use Prim.Native.Nat.{_+_, _≤_};

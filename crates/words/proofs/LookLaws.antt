@@ -17,8 +17,8 @@ use Rattle.words.specs.Words.{IsGate, Looked}
 use Rattle.frame.specs.declared.Cursor.{Cursor}
 use Rattle.frame.specs.declared.Frame.{Frame}
 use Rattle.frame.specs.declared.Op.{Op}
-use Rattle.words.specs.declared.read.Look.{Look}
-use Rattle.words.specs.declared.read.Look.the-variants.{Is}
+use Rattle.frame.specs.declared.kinds.Look.{Look}
+use Rattle.frame.specs.declared.kinds.Look.the-variants.{Is}
 use Rattle.digits.proofs.DigitLaws.{run-more, run-stop, byte-number}
 use Rattle.frame.proofs.DecodeLaws.{fieldsAt, whole}
 use Rattle.frame.proofs.KindLaws.{part-long, part-number, part-fields}

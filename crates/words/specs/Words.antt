@@ -8,8 +8,8 @@ use Rattle.frame.specs.Frames.{first, frameOf}
 use Rattle.frame.specs.Frames.First.{found}
 use Rattle.frame.specs.declared.Op.{Op}
 use Rattle.frame.specs.declared.Op.the-variants.{And, Xor}
-use Rattle.words.specs.declared.read.Look.{Look}
-use Rattle.words.specs.declared.read.Look.the-variants.{Is, Other}
+use Rattle.frame.specs.declared.kinds.Look.{Look}
+use Rattle.frame.specs.declared.kinds.Look.the-variants.{Is, Other}
 
 -- '2' is AND and '3' is XOR, behind '0'
 pub record IsGate (digit : ℕ) (op : Op) : Type 0 where

@@ -1,11 +1,16 @@
 // The line at a cursor, where a resolve, a gate or an output is expected. Where LF stands as far on as that kind has it and all before it are
-// digits, the frame is known at one look; every other line is `read_line`'s, and so is its refusal.
+// digits, the frame is known at one look; every other line is `read_line`'s, and so is its refusal. `Look::Other` here says only that the line is
+// not known.
 use digits::read::NO_WORD;
 use digits::read::word_at;
 use frame::Cursor;
 use frame::Frame;
 use frame::Line;
 use frame::Op;
+use frame::kinds::GATE_BYTES;
+use frame::kinds::Look;
+use frame::kinds::OUTPUT_BYTES;
+use frame::kinds::RESOLVE_BYTES;
 use frame::read_line;
 ghost use mathlib.Core.Path.{_≡_};
 ghost use Prim.Native.Nat.{_+_, _≤_};
@@ -14,18 +19,12 @@ ghost use Rattle.model.specs.Lines.{lines};
 ghost use Rattle.frame.specs.Frames.{first, firstOf, Inside, Ahead};
 ghost use Rattle.words.specs.Words.{Looked, Ends, IsGate};
 
-// The frame of the line at a place, and the place behind it; or not known at one look.
-pub enum Look {
-    Is(Frame, usize),
-    Other,
-}
-
 // Kind 11.
 pub fn look_resolve(text: &[u8], at: usize) -> Look
     requires { ⌜ at ≤ length (now text) ⌝ }
     ensures { λ r. ⌜ Looked (now (text .entry)) at r ⌝ }
 {
-    if text.len() - at < 15 {
+    if text.len() - at < RESOLVE_BYTES {
         return Look::Other;
     }
     if text[at + 14] != 10 {
@@ -55,7 +54,7 @@ pub fn look_resolve(text: &[u8], at: usize) -> Look
             second: second as u16,
             variable: variable as u16,
         },
-        at + 15,
+        at + RESOLVE_BYTES,
     )
 }
 
@@ -75,7 +74,7 @@ pub fn look_gate(text: &[u8], at: usize) -> Look
     ensures looks { λ r. ⌜ Looked (now (text .entry)) at r ⌝ }
     ensures ends { λ r. ⌜ Ends r (at + 11) ⌝ }
 {
-    if text.len() - at < 11 {
+    if text.len() - at < GATE_BYTES {
         return Look::Other;
     }
     if text[at + 10] != 10 {
@@ -106,7 +105,7 @@ pub fn look_gate(text: &[u8], at: usize) -> Look
             x: x as u16,
             y: y as u16,
         },
-        at + 11,
+        at + GATE_BYTES,
     )
 }
 
@@ -116,7 +115,7 @@ pub fn look_output(text: &[u8], at: usize) -> Look
     ensures looks { λ r. ⌜ Looked (now (text .entry)) at r ⌝ }
     ensures ends { λ r. ⌜ Ends r (at + 7) ⌝ }
 {
-    if text.len() - at < 7 {
+    if text.len() - at < OUTPUT_BYTES {
         return Look::Other;
     }
     if text[at + 6] != 10 {
@@ -136,7 +135,7 @@ pub fn look_output(text: &[u8], at: usize) -> Look
         Frame::Output {
             literal: literal as u16,
         },
-        at + 7,
+        at + OUTPUT_BYTES,
     )
 }
 
