@@ -1,8 +1,9 @@
 -- The replay of a proof, by what the cursor's reader answers at a line.
-use Prim.Native.Nat.{ℕ}
+use Prim.Native.Nat.{ℕ, suc, _+_}
 use mathlib.Core.Path.{_≡_, refl, _∙_}
 use mathlib.Core.Bool.{Bool, true, false}
 use mathlib.Core.List.{List, [], _∷_}
+use native.Mathlib.Omega.{arith}
 use types.Run.{OneOf, miss}
 use denote.Enum.Declared.{tagOf}
 use lib.Dec.{eqb}
@@ -10,7 +11,7 @@ use lib.ListN.{length}
 use Rattle.model.specs.Answers.{Answer, guard, bind}
 use Rattle.model.specs.Answers.Answer.{ok, refused}
 use Rattle.model.specs.Frames as frames
-use Rattle.model.specs.Frames.{dueAt, resolveKind}
+use Rattle.model.specs.Frames.{dueAt, resolveKind, widths}
 use Rattle.model.specs.Steps.{State, step, isStep, stepOf, stepAt, replay}
 use Rattle.model.specs.Steps.Step.{resolve}
 use Rattle.frame.proofs.Frame as frame-type
@@ -22,6 +23,12 @@ use Rattle.frame.specs.declared.Frame.the-variants.{Header, Gate, Output, Resol
 use Rattle.frame.specs.declared.Line.{Line}
 use Rattle.frame.specs.declared.Line.the-variants.{Read, End, Refused}
 use Rattle.frame.specs.declared.Cursor.{Cursor}
+use Rattle.frame.specs.declared.kinds.Kind.{Kind}
+use Rattle.frame.specs.declared.kinds.Kind.the-variants as kind-case
+use Rattle.frame.specs.declared.read.Resolve as read
+use Rattle.frame.specs.declared.read.Resolve.the-variants.{Of}
+use Rattle.frame.specs.Kinds.{KindSays}
+use Rattle.frame.specs.Fields.{LineAt, ResolveSays}
 use Rattle.frame.specs.Frames.{frameOf, first, firstOf, Inside}
 use Rattle.frame.proofs.FirstLaws.{first-none, first-fault, first-found}
 use Rattle.netlist.specs.Says.{from}
@@ -138,3 +145,38 @@ module _ (room : ℕ) (text : List ℕ) (c : Cursor) (got : Line) (e : firstOf t
   pub line-refused : (x : Refusal) (store′ : List ℕ) → ((s : State) → Tracks store p s → Says room (frameStep room (c .line) s (frameOf f)) store′ (stepped-case.Refused x))
       → (s : State) → Tracks store p s → replay room s (from text c) (c .line) ≡ refused (x .number) (x .line)
   line-refused x store′ step s t = replay-refused room s text c got e f next is (x .number) (x .line) (step s t)
+
+-- ---- a resolve, read without a frame
+
+-- the bytes of its line
+abbrev resolveBytes : ℕ
+resolveBytes = 15
+
+pub resolve-line : (text : List ℕ) (at : ℕ) {k : Kind} {r : read.Resolve} {a b v : ℕ} → KindSays text at k → k ≡ kind-case.Resolve → ResolveSays text at r → r ≡ Of a b v
+    → LineAt text at resolveBytes resolveKind (a ∷ b ∷ v ∷ [])
+unfolding widths
+resolve-line text at {k} {r} {a} {b} {v} says is fields of =
+    let kind : KindSays text at kind-case.Resolve = rw is at says in
+    let line : ResolveSays text at (Of a b v) = rw of at fields in
+    line resolveKind kind refl
+
+-- the cursor behind it
+abbrev behind : Cursor → Cursor
+behind c = record { at = c .at + resolveBytes; line = c .line + 1 }
+
+module _ (room : ℕ) (text : List ℕ) (c : Cursor) (i : Inside text c) {a b v : ℕ} (l : LineAt text (c .at) resolveBytes resolveKind (a ∷ b ∷ v ∷ [])) where
+  pub behind-resolve : Inside text (behind c)
+  behind-resolve = record { at = l .room; line = omega (arith, i .line) }
+
+  resolve-read : firstOf text (Read (Resolve a b v) (behind c)) ≡ first (from text c) (c .line)
+  resolve-read = let s : c .line + 1 ≡ suc (c .line) = omega arith in rw s (l .framed (c .line))
+
+  module _ (store : List ℕ) (p : Progress) (store′ : List ℕ) where
+    pub ran-resolve : (q : Progress) → Within store p room → length store′ ≡ length store
+        → ((s : State) → Tracks store p s → Says room (step room (c .line) s (resolve a b v)) store′ (Done q)) → RanTo room text c store p store′ (behind c) q
+    ran-resolve q w n does =
+        ran-line room text c (Read (Resolve a b v) (behind c)) resolve-read (Resolve a b v) (behind c) refl store p store′ q behind-resolve w n (λ s t. rw (frame-resolve room (c .line) s a b v) (does s t))
+
+    pub resolve-refused : (x : Refusal) → ((s : State) → Tracks store p s → Says room (step room (c .line) s (resolve a b v)) store′ (stepped-case.Refused x))
+        → (s : State) → Tracks store p s → replay room s (from text c) (c .line) ≡ refused (x .number) (x .line)
+    resolve-refused x does = line-refused room text c (Read (Resolve a b v) (behind c)) resolve-read (Resolve a b v) (behind c) refl store p x store′ (λ s t. rw (frame-resolve room (c .line) s a b v) (does s t))

@@ -2,14 +2,17 @@
 use frame::Cursor;
 use frame::Frame;
 use frame::Line;
-use frame::kinds::Look;
+use frame::kinds::Kind;
+use frame::kinds::RESOLVE_BYTES;
+use frame::kinds::kind_at;
+use frame::read::Resolve;
+use frame::read::resolve_at;
 use frame::read_line;
 use netlist::Refusal;
 use steps::Progress;
 use steps::Stepped;
 use steps::extend_step;
 use steps::resolve_step;
-use words::read::look_resolve;
 ghost use mathlib.Core.Path.{_≡_};
 ghost use Rattle.model.specs.Steps as model;
 ghost use Rattle.model.specs.Steps.{State};
@@ -70,7 +73,7 @@ fn stopped(ran: Ran) -> Stepped
     }
 }
 
-// The resolves in a row from a cursor on that are known at one look. Long proofs have hardly any other line.
+// The resolves in a row from a cursor on. Long proofs have hardly any other line, and no frame is built for these.
 fn run_resolves(text: &[u8], cursor: Cursor, store: &mut [u16], start: Progress, room: usize) -> Ran
     requires { ⌜ Inside (now text) cursor × Within (now store) start room ⌝ }
     ensures { λ r. ⌜ RanSays room (now (text .entry)) cursor (now (store .entry)) start (now (store .exit)) r ⌝ }
@@ -79,15 +82,27 @@ fn run_resolves(text: &[u8], cursor: Cursor, store: &mut [u16], start: Progress,
     let mut p = start;
     loop {
         let line = c.line;
-        let look = look_resolve(text, c.at);
-        let Look::Is(frame, behind) = look else {
+        let kind = kind_at(text, c.at);
+        let Kind::Resolve = kind else {
             return Ran::At(c, p);
         };
-        let stepped = frame_step(store, p, room, line, frame);
+        let resolve = resolve_at(text, c.at);
+        let Resolve::Of(first, second, variable) = resolve else {
+            return Ran::At(c, p);
+        };
+        let stepped = resolve_step(
+            store,
+            p,
+            room,
+            line,
+            first as usize,
+            second as usize,
+            variable,
+        );
         match stepped {
             Stepped::Done(q) => {
                 c = Cursor {
-                    at: behind,
+                    at: c.at + RESOLVE_BYTES,
                     line: line + 1,
                 };
                 p = q;

@@ -15,7 +15,7 @@ use Rattle.model.specs.Miter.{zGates, firstGate, firstZ}
 use Rattle.laws.specs.ListText.{below-at}
 use Rattle.laws.specs.MiterOrder.{last, shift-below, below-right}
 use Rattle.netlist.specs.declared.Pair.{Pair}
-use Rattle.netlist.specs.Again.{noGate}
+use Rattle.gates.specs.Gates.{noGate}
 use Rattle.netlist.specs.Within.{Within}
 use Rattle.miter.specs.Miters.{Lists}
 use Rattle.miter.proofs.MiterLaws.{z-of}

@@ -25,7 +25,7 @@ use Rattle.emit_laws.specs.Gates.{Literals, ClauseNumbers, linkOf, normal, norm
 use Rattle.emit_laws.specs.Place.{clauseCount, behind, firstZClause, lastNumber}
 use Rattle.emit_laws.specs.Loop.{slots, from, gateTrees, sign, loop}
 use Rattle.emit_laws.specs.Emit.{startLinks, gateLines, lastTree, emit}
-use Rattle.netlist.specs.Again.{noGate}
+use Rattle.gates.specs.Gates.{noGate}
 use Rattle.table.specs.Rows.{rowWidth, HoldsTable}
 use Rattle.table.specs.Links.{linkWidth, Keeps}
 use Rattle.derive.specs.declared.gates.DefinedGate.{DefinedGate}

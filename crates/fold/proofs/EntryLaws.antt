@@ -10,10 +10,11 @@ use Rattle.model.specs.Nets.{netOf, readsBelow}
 use Rattle.laws.specs.Literals.{literals-below}
 use Rattle.laws.specs.Pairs.{isXor}
 use Rattle.frame.specs.declared.Op.{Op}
-use Rattle.netlist.specs.declared.again.Gate.{Gate}
-use Rattle.netlist.specs.Again.{opOf, gateMeant}
+use Rattle.gates.specs.declared.Gate.{Gate}
+use Rattle.gates.specs.Gates.{gateMeant}
 use Rattle.miter.proofs.MiterLaws.{meant}
 use Rattle.model.specs.Clauses.{positive}
+use Rattle.frame.specs.Frames.{opOf}
 use Rattle.fold_laws.specs.Signs.{signed}
 use Rattle.fold_laws.specs.Cases.Made.{is, key}
 use Rattle.fold_laws.specs.Table as model

@@ -12,13 +12,13 @@ use Rattle.frame.specs.Frames.First.{none, found, fault}
 
 -- ---- no two cases are the same
 
-none-found : {f : Frame} {ls : List Line} {line : ℕ} → none ≡ found f ls line → ⊥
+pub none-found : {f : Frame} {ls : List Line} {line : ℕ} → none ≡ found f ls line → ⊥
 none-found e = let z : _≡_ {A = ℕ} 0 1 = cc in omega arith
 
 none-fault : {number line : ℕ} → none ≡ fault number line → ⊥
 none-fault e = let z : _≡_ {A = ℕ} 0 1 = cc in omega arith
 
-found-fault : {f : Frame} {ls : List Line} {line number place : ℕ} → found f ls line ≡ fault number place → ⊥
+pub found-fault : {f : Frame} {ls : List Line} {line number place : ℕ} → found f ls line ≡ fault number place → ⊥
 found-fault e = let z : _≡_ {A = ℕ} 0 1 = cc in omega arith
 
 -- ---- the cases

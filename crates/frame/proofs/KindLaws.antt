@@ -1,168 +1,146 @@
--- Laws of looking at a line: its digits run from its kind through its fields to LF, so that it is decoded as the table has it; where the run stops
--- before, or LF stands elsewhere, the line has another length than its kind and is refused.
-use Prim.Native.Nat.{ℕ, zero, suc, _+_, _<_, _≤_}
+-- Laws of kinds: the kind that two digits spell, the kind of a line, and a line that has none.
+use Prim.Native.Nat.{ℕ, suc, _+_, _*_, _<_, _≤_}
 use mathlib.Core.Path.{_≡_, refl, sym, ap, _∙_}
 use mathlib.Core.List.{List, [], _∷_}
-use mathlib.Core.Bool.{Bool, true, false}
+use mathlib.Core.Bool.{Bool, true, false, cond}
 use native.Mathlib.Omega.{arith}
 use lib.ListN.{length, take, drop, getD, length-drop}
-use lib.Seq.{length-take-le, drop-drop}
-use lib.Dec.{ltb}
-use borrow.Author.Tests.{ltb-true, ltb-false}
-use Rattle.model.specs.Answers.Answer.{refused}
-use Rattle.model.specs.Lines.{lineFeed, lines}
-use Rattle.model.specs.Frames.{widths, isKind, total, number, oneByte, twoBytes, decode}
-use Rattle.digits.specs.Digits.{valueOf, values, run, numberAt, byteLimit, Spelt}
-use Rattle.digits.proofs.DigitLaws.{run-stop}
-use Rattle.frame.specs.declared.Op.{Op}
-use Rattle.frame.specs.declared.Op.the-variants.{And, Xor}
-use Rattle.frame.specs.declared.Cursor.{Cursor}
-use Rattle.frame.specs.declared.Frame.{Frame}
-use Rattle.frame.specs.declared.Line.{Line}
-use Rattle.frame.specs.declared.Line.the-variants.{Read, End, Refused}
-use Rattle.frame.specs.declared.kinds.Look.{Look}
-use Rattle.frame.specs.declared.kinds.Look.the-variants.{Is, Other}
-use Rattle.frame.specs.Frames.{frameOf, first, Inside, Ahead, NoFrame}
+use lib.Dec.{eqb, ltb}
+use borrow.Author.Tests.{ltb-true, ltb-false, eqb-true, eqb-false, ne-eqb}
+use Rattle.model.specs.Answers.{Answer}
+use Rattle.model.specs.Answers.Answer.{ok, refused}
+use Rattle.model.specs.Lines as model
+use Rattle.model.specs.Lines.{isDigit, digitOf, lineFeed, lines}
+use Rattle.model.specs.Frames.{Frame, widths, isKind, number, oneByte, decodeAs, decode}
+use Rattle.laws.specs.Answers.{ok-injective, refused-not-ok, guard-ok}
+use Rattle.digits.specs.Digits.{valueOf, values, run, numberAt}
+use Rattle.digits.proofs.DigitLaws.{value-back, run-more, run-stop, byte-number}
+use Rattle.frame.specs.declared.kinds.Kind.{Kind}
+use Rattle.frame.specs.declared.kinds.Kind.the-variants.{Header, Gate, Output, Resolve, Extend, Report, Unknown}
+use Rattle.frame.specs.Frames.{first, firstIn}
 use Rattle.frame.specs.Frames.First.{found}
-use Rattle.frame.specs.Kinds.{operandsKind, KindAt, Feeds, Unframed, Looked}
-use Rattle.frame.proofs.DecodeLaws.{fieldsAt, whole, wrong-length, no-kind, short}
-use Rattle.frame.proofs.LineLaws.{read-whole}
+use Rattle.frame.specs.Kinds.{ByKind, Spell, Named, KindAt, KindSays, Unframed}
+use Rattle.frame.proofs.DecodeLaws.{no-kind, short}
+use Rattle.frame.proofs.FieldLaws.{part-long, kind-spelt}
+use Rattle.frame.proofs.FirstLaws.{none-found, found-fault}
+use Rattle.frame.proofs.LineLaws.{read-end, read-open, read-other, read-whole}
 
--- ---- numbers of a line are those of the text
+-- what follows of each kind's byte, and of one outside the table, follows of the kind
+by-kind : {P Q : ℕ → Type 0} {A B : Type 0} → ((kind : ℕ) → P kind → Q kind) → (A → B) → (k : Kind) → ByKind P A k → ByKind Q B k
+by-kind f g Header h = f _ h
+by-kind f g (Gate op) h = f _ h
+by-kind f g Output h = f _ h
+by-kind f g Resolve h = f _ h
+by-kind f g (Extend op) h = f _ h
+by-kind f g Report h = f _ h
+by-kind f g Unknown h = g h
 
-values-drop : (at : ℕ) (l : List ℕ) → values (drop at l) ≡ drop at (values l)
-values-drop zero l = refl
-values-drop (suc at) [] = refl
-values-drop (suc at) (b ∷ l) = values-drop at l
+-- ---- two digits
 
-take-part : (l : List ℕ) (n k w : ℕ) → k + w ≤ n → take w (drop k (values (take n l))) ≡ take w (drop k (values l))
-take-part l zero zero zero h = refl
-take-part l zero zero (suc w) h = absurd (omega arith)
-take-part l zero (suc k) w h = absurd (omega arith)
-take-part [] (suc n) k w h = refl
-take-part (b ∷ l) (suc n) zero zero h = refl
-take-part (b ∷ l) (suc n) zero (suc w) h = ap (λ (t : List ℕ). valueOf b ∷ t) (take-part l n zero w (omega arith))
-take-part (b ∷ l) (suc n) (suc k) w h = take-part l n k w (omega arith)
+module _ (high low : ℕ) (hb : high < 256) (lb : low < 256) where
+  -- bytes that are these digits
+  pub named : {spelt : ℕ} (a b : ℕ) → a < 256 → b < 256 → spelt ≡ 256 * high + low → spelt ≡ 256 * a + b → isDigit a ≡ true → isDigit b ≡ true → {kind : ℕ} → kind ≡ 16 * valueOf a + valueOf b
+      → Spell high low kind
+  named a b ha hb′ e q ia ib k =
+      let h : high ≡ a = omega arith in
+      let l : low ≡ b = omega arith in
+      rw (h, l) (record { high-digit = ia; low-digit = ib; spelt = k })
 
-module _ (text : List ℕ) (at n : ℕ) where
-  pub part-long : at + n < length text → length (take n (drop at text)) ≡ n
-  part-long h = length-take-le n (drop at text) (rw length-drop (omega arith))
+  -- digits that do not spell a number of the table
+  pub not-spelt : {spelt : ℕ} (p q : ℕ) → p < 16 → q < 16 → spelt ≡ 256 * high + low → (spelt ≡ 256 * digitOf p + digitOf q → ⊥) → isDigit high ≡ true → isDigit low ≡ true
+      → eqb (16 * valueOf high + valueOf low) (16 * p + q) ≡ false
+  not-spelt p q hp hq e not ih il =
+      let h = value-back high ih in
+      let l = value-back low il in
+      ne-eqb _ _ (λ (s : 16 * valueOf high + valueOf low ≡ 16 * p + q).
+      let u : valueOf high ≡ p = omega (arith, h .0, l .0) in
+      let v : valueOf low ≡ q = omega (arith, h .0, l .0) in
+      not (e ∙ rw (← u, ← v, h .1, l .1)))
 
-  pub part-number : (k w : ℕ) → k + w ≤ n → numberAt (take n (drop at text)) k w ≡ numberAt text (at + k) w
-  unfolding numberAt
-  part-number k w h =
-      ap (number 0) (take-part (drop at text) n k w h ∙ rw (values-drop at text, drop-drop k at (values text)))
+-- ---- the kind of a line
 
-  pub part-fields : (ws : List ℕ) (k : ℕ) → k + total ws ≤ n → fieldsAt (take n (drop at text)) k ws ≡ fieldsAt text (at + k) ws
-  unfolding total
-  part-fields [] k h = refl
-  part-fields (w ∷ ws) k h =
-      let e : at + (k + w) ≡ at + k + w = omega arith in
-      rw (part-number k w (omega arith), part-fields ws (k + w) (omega arith), e)
+module _ (text : List ℕ) (at : ℕ) (room : at + oneByte ≤ length text) where
+  known : (kind : ℕ) → Spell (getD text at 0) (getD text (at + 1) 0) kind → KindAt text at kind
+  known kind s =
+      let one = run-more text at (omega arith) (s .high-digit) in
+      let f : at + 1 + 1 ≡ at + 2 = omega arith in
+      let two = rw f at (run-more text (at + 1) (omega arith) (s .low-digit)) in
+      record { room = room; goes = omega arith; spelt = s .spelt ∙ sym (byte-number text at room) }
 
--- ---- fields one behind the other
-
--- numbers that digits of these widths spell from a place on
-abbrev pub AllSpelt : List ℕ → ℕ → List ℕ → List ℕ → Type 0
-AllSpelt text at [] rs = rs ≡ []
-AllSpelt text at (w ∷ ws) [] = ⊥
-AllSpelt text at (w ∷ ws) (r ∷ rs) = (run (drop at text) ≡ w + run (drop (at + w) text)) × (r ≡ numberAt text at w) × AllSpelt text (at + w) ws rs
-
--- one more in front, where the next stands right behind it
-pub spelt-more : {text : List ℕ} {at w limit r : ℕ} (next : ℕ) (ws rs : List ℕ) → Spelt text at w limit r → r < limit → next ≡ at + w → AllSpelt text next ws rs
-    → AllSpelt text at (w ∷ ws) (r ∷ rs)
-spelt-more next ws rs s h e rest = (rw (← e) (s .goes h next e), s .number h, rw (← e) rest)
-
-spelt-run : (text : List ℕ) (at : ℕ) (ws rs : List ℕ) → AllSpelt text at ws rs → run (drop at text) ≡ total ws + run (drop (at + total ws) text)
-unfolding total
-spelt-run text at [] rs h = let z : at + 0 ≡ at = omega arith in rw z (omega arith)
-spelt-run text at (w ∷ ws) [] h = absurd h
-spelt-run text at (w ∷ ws) (r ∷ rs) h =
-    let z : at + w + total ws ≡ at + (w + total ws) = omega arith in
-    let e = rw z at (spelt-run text (at + w) ws rs (h .2)) in
-    omega (arith, h .0)
-
-spelt-fields : (text : List ℕ) (at : ℕ) (ws rs : List ℕ) → AllSpelt text at ws rs → fieldsAt text at ws ≡ rs
-spelt-fields text at [] rs h = sym h
-spelt-fields text at (w ∷ ws) [] h = absurd h
-spelt-fields text at (w ∷ ws) (r ∷ rs) h = rw (← h .1, spelt-fields text (at + w) ws rs (h .2))
-
--- ---- a line of a kind
-
-kind-spelt : (text : List ℕ) (at kind n : ℕ) → KindAt text at kind → oneByte ≤ n → kind ≡ numberAt (take n (drop at text)) 0 oneByte
-kind-spelt text at kind n k h = let z : at + 0 ≡ at = omega arith in k .spelt ∙ sym (rw z at (part-number text at n 0 oneByte (omega arith)))
-
-module _ (text : List ℕ) (at : ℕ) {kind : ℕ} (ws : List ℕ) (k : KindAt text at kind) (w : widths kind ≡ ws) where
-  -- the fields of the kind, and LF behind them
-  pub framed : (rs : List ℕ) (n : ℕ) → isKind ws ≡ true → AllSpelt text (at + oneByte) ws rs → n ≡ oneByte + total ws → at + n < length text → getD text (at + n) 0 ≡ lineFeed
-      → (line : ℕ) → found (record { kind = kind; fields = rs }) (lines (drop (at + n + 1) text)) (suc line) ≡ first (lines (drop at text)) line
-  framed rs n some h q f l line =
-      let stop : run (drop (at + n) text) ≡ 0 = run-stop text (at + n) f (rw l) in
-      let z : at + oneByte + total ws ≡ at + n = omega arith in
-      let on = rw z at (spelt-run text (at + oneByte) ws rs h) in
-      let runs : n ≡ run (drop at text) = omega (arith, k .goes) in
-      let fields : fieldsAt (take n (drop at text)) oneByte (widths kind) ≡ rs = rw w (part-fields text at n ws oneByte (omega arith) ∙ spelt-fields text (at + oneByte) ws rs h) in
-      let d = whole (take n (drop at text)) line (kind-spelt text at kind n k (omega arith)) refl (rw w some) (part-long text at n f ∙ rw w q) in
-      sym (read-whole text at line n runs f l ∙ rw (← d, fields))
-
-  -- no line of the kind's length
-  other-length : ((n : ℕ) → n ≡ oneByte + total ws → n ≡ run (drop at text) → at + n < length text → getD text (at + n) 0 ≡ lineFeed → ⊥) → Unframed text at
-  other-length not n line e h f =
-      wrong-length (take n (drop at text)) line (kind-spelt text at kind n k (omega (arith, k .goes))) refl
-      (λ q. not n (sym (part-long text at n h) ∙ rw w at q) e h f)
-
-  pub unfed : {bytes : ℕ} {r : Bool} → Feeds text at bytes r → r ≡ false → suc (oneByte + total ws) ≡ bytes → Unframed text at
-  unfed f is e = other-length (λ n q _ h l. f .none is n (omega arith) h l)
-
-  -- the run of digits stops within the fields
-  pub stopped : run (drop at text) < oneByte + total ws → Unframed text at
-  stopped h = other-length (λ n q e _ _. omega arith)
-
--- both kinds of a gate, and both of an extension, have two literals
-pub operands-widths : (extends : Bool) (op : Op) → widths (operandsKind extends op) ≡ twoBytes ∷ twoBytes ∷ []
-unfolding widths
-operands-widths false And = refl
-operands-widths false Xor = refl
-operands-widths true And = refl
-operands-widths true Xor = refl
-
--- ---- the kind
-
-module _ (text : List ℕ) (at r : ℕ) (room : at + oneByte ≤ length text) (s : Spelt text at oneByte byteLimit r) where
-  pub known : {kind : ℕ} → r ≡ kind → kind < byteLimit → KindAt text at kind
-  known e h = rw (← e) (record { room = room; goes = s .goes (omega arith) (at + oneByte) refl; spelt = s .number (omega arith) })
-
-  -- a number outside the table, or no digits
-  pub unknown : isKind (widths r) ≡ false → Unframed text at
-  unknown none n line e h f = go (ltb r byteLimit) refl
+  unknown : (isDigit (getD text at 0) ≡ true → isDigit (getD text (at + 1) 0) ≡ true → isKind (widths (16 * valueOf (getD text at 0) + valueOf (getD text (at + 1) 0))) ≡ false) → Unframed text at
+  unknown none n line e h f = go (isDigit (getD text at 0)) (isDigit (getD text (at + 1) 0)) refl refl
     where
-      go : (t : Bool) → ltb r byteLimit ≡ t → refused 3 line ≡ decode (values (take n (drop at text))) line
-      go true t =
-          let k = known refl (ltb-true r byteLimit t) in
-          no-kind (take n (drop at text)) line (kind-spelt text at r n k (omega (arith, k .goes))) refl none
-      go false t = short (take n (drop at text)) line (omega (arith, s .stops (ltb-false r byteLimit t), part-long text at n h))
+      go : (t u : Bool) → isDigit (getD text at 0) ≡ t → isDigit (getD text (at + 1) 0) ≡ u → refused 3 line ≡ decode (values (take n (drop at text))) line
+      go true true t u =
+          let k = known _ (record { high-digit = t; low-digit = u; spelt = refl }) in
+          no-kind (take n (drop at text)) line (kind-spelt text at _ n k (omega (arith, k .goes))) refl (none t u)
+      go true false t u =
+          let one = run-more text at (omega arith) t in
+          let two = run-stop text (at + 1) (omega arith) u in
+          short (take n (drop at text)) line (omega (arith, part-long text at n h))
+      go false u t _ =
+          let one = run-stop text at (omega arith) t in
+          short (take n (drop at text)) line (omega (arith, part-long text at n h))
+
+  pub kind-says : (k : Kind) → Named (getD text at 0) (getD text (at + 1) 0) k → KindSays text at k
+  kind-says k h = by-kind known unknown k h
 
 -- less than two bytes
 pub unframed-short : (text : List ℕ) (at : ℕ) → length text < at + oneByte → Unframed text at
 unframed-short text at r n line e h f = short (take n (drop at text)) line (omega (arith, part-long text at n h))
 
--- ---- the line at a cursor
+run-fits : (s : List ℕ) → run s ≤ length s
+run-fits [] = omega arith
+run-fits (b ∷ s) = go (isDigit b) (run-fits s)
+  where
+    go : (t : Bool) → run s ≤ length s → cond t (suc (run s)) 0 ≤ suc (length s)
+    go true h = omega arith
+    go false h = omega arith
 
-module _ (text : List ℕ) (c : Cursor) {look : Look} (h : Looked text (c .at) look) where
-  -- its frame, with the cursor behind it
-  pub look-framed : c .line ≤ suc (c .at) → {f : Frame} {behind : ℕ} → look ≡ Is f behind
-      → (found (frameOf f) (lines (drop behind text)) (c .line + 1) ≡ first (lines (drop (c .at) text)) (c .line)) × (Inside text (record { at = behind; line = c .line + 1 }) × (c .at < behind))
-  look-framed i {f} {behind} e =
-      let k : Looked text (c .at) (Is f behind) = rw e at h in
-      let s : c .line + 1 ≡ suc (c .line) = omega arith in
-      (rw s (k .2 (c .line)), (record { at = k .1; line = omega (arith, k .0) }, k .0))
+-- ---- a line that has a frame
 
-  -- or it has none
-  pub look-unframed : look ≡ Other → Unframed text (c .at)
-  look-unframed e = rw e at h
+-- the digits of the line, decoded
+record Decoded (text : List ℕ) (at line : ℕ) (f : Frame) : Type 0 where
+  inside : at + run (drop at text) < length text
+  feed : getD text (at + run (drop at text)) 0 ≡ lineFeed
+  frame : decode (values (take (run (drop at text)) (drop at text))) line ≡ ok f
 
--- where none was read the cursor is not farther on
-pub nowhere : (text : List ℕ) (at : ℕ) (got : Line) → NoFrame got → Ahead text at got
-nowhere text at (Read f next) n = absurd n
-nowhere text at End n = tt
-nowhere text at (Refused number line) n = tt
+decode-kind : (ds : List ℕ) (line : ℕ) {f : Frame} → decode ds line ≡ ok f → f .kind ≡ number 0 (take oneByte ds)
+unfolding decode decodeAs
+decode-kind ds line e = sym (ap (λ (f : Frame). f .kind) (ok-injective (guard-ok _ 3 line _ e .1)))
+
+module _ (text : List ℕ) (at line : ℕ) {f : Frame} {ls : List model.Line} {next : ℕ} (i : at ≤ length text) (e : found f ls next ≡ first (lines (drop at text)) line) where
+  found-decoded : Decoded text at line f
+  found-decoded = start (eqb at (length text)) refl
+    where
+      n : ℕ
+      n = run (drop at text)
+
+      same : (a : Answer Frame) → found f ls next ≡ firstIn a (lines (drop (at + n + 1) text)) (suc line) → a ≡ ok f
+      same (ok g) q = cc
+      same (refused number place) q = absurd (found-fault q)
+
+      go : (at ≡ length text → ⊥) → (b : Bool) → ltb (at + n) (length text) ≡ b → (d : Bool) → eqb (getD text (at + n) 0) lineFeed ≡ d → Decoded text at line f
+      go _ true b true d =
+          let h = ltb-true (at + n) (length text) b in
+          let l = eqb-true (getD text (at + n) 0) lineFeed d in
+          record { inside = h; feed = l; frame = same _ (e ∙ read-whole text at line n refl h l) }
+      go _ true b false d = absurd (found-fault (e ∙ read-other text at line n refl (ltb-true (at + n) (length text) b) (eqb-false (getD text (at + n) 0) lineFeed d)))
+      go m false b d _ = absurd (found-fault (e ∙ read-open text at line n refl (omega arith) (omega (arith, ltb-false (at + n) (length text) b, rw length-drop at (run-fits (drop at text))))))
+
+      start : (t : Bool) → eqb at (length text) ≡ t → Decoded text at line f
+      start true t = absurd (none-found (sym (e ∙ read-end text at line n refl (omega (arith, eqb-true at (length text) t)))))
+      start false t = go (eqb-false at (length text) t) (ltb (at + n) (length text)) refl (eqb (getD text (at + n) 0) lineFeed) refl
+
+  -- its kind is what its first two digits spell
+  pub found-kind : {kind : ℕ} → KindAt text at kind → f .kind ≡ kind
+  unfolding numberAt
+  found-kind {kind} k =
+      let d = found-decoded in
+      decode-kind _ line (d .frame) ∙ sym (kind-spelt text at kind (run (drop at text)) k (omega (arith, k .goes)))
+
+  -- and it is not refused
+  pub found-framed : Unframed text at → ⊥
+  found-framed u =
+      let d = found-decoded in
+      refused-not-ok (u (run (drop at text)) line refl (d .inside) (d .feed) ∙ d .frame)

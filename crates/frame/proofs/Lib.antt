@@ -1,5 +1,6 @@
 pub mod LineLaws
 pub mod DecodeLaws
+pub mod FieldLaws
 pub mod KindLaws
 pub mod LoneLaws
 pub mod WriteLaws

@@ -2,7 +2,7 @@
 use Prim.Native.Nat.{ℕ, zero, suc, _+_, _-_, _/_, _%_, _<_, _≤_}
 use mathlib.Core.Path.{_≡_, refl, sym, ap, _∙_}
 use mathlib.Core.List.{List, [], _∷_, _++_, append-assoc, append-nil}
-use mathlib.Core.Bool.{true, false, and-false}
+use mathlib.Core.Bool.{Bool, true, false, and-false}
 use native.Mathlib.Omega.{arith}
 use lib.Dec.{leb}
 use lib.ListN.{length, take, drop, getD, set, length-replicate, drop-of-length-le}
@@ -24,7 +24,8 @@ use Rattle.frame.specs.declared.Frame.the-variants.{Header, Gate, Output
 use Rattle.frame.specs.declared.Op.{Op}
 use Rattle.frame.specs.declared.Op.the-variants.{And, Xor}
 use Rattle.frame.specs.declared.fields.Fields.{Fields}
-use Rattle.frame.specs.Frames.{gateKind, extendKind, report, frameOf, Spells}
+use Rattle.frame.specs.Frames.{report, frameOf, Spells}
+use Rattle.frame.specs.Kinds.{operandsKind}
 
 -- ---- stores
 
@@ -57,16 +58,13 @@ unfolding hexFields
 store-field out p w v ws vs tail =
     rw (append-assoc (hex w v) (hexFields ws vs) tail, sets-append out p (hex w v) (hexFields ws vs ++ tail), length-hex w v)
 
--- a gate's and an extension's fields have the same widths for AND and XOR
-pub gate-widths : (op : Op) → twoBytes ∷ twoBytes ∷ [] ≡ widths (gateKind op)
+-- both kinds of a gate, and both of an extension, have two literals
+pub operands-widths : (extends : Bool) (op : Op) → widths (operandsKind extends op) ≡ twoBytes ∷ twoBytes ∷ []
 unfolding widths
-gate-widths And = refl
-gate-widths Xor = refl
-
-pub extend-widths : (op : Op) → twoBytes ∷ twoBytes ∷ [] ≡ widths (extendKind op)
-unfolding widths
-extend-widths And = refl
-extend-widths Xor = refl
+operands-widths false And = refl
+operands-widths false Xor = refl
+operands-widths true And = refl
+operands-widths true Xor = refl
 
 -- a frame that is no report states no line
 pub no-line : (f : frame-type.Frame) → OneOf (0 ∷ 1 ∷ 2 ∷ 3 ∷ 4 ∷ []) (tagOf frame-tag.the-type f) → statedLine (frameOf f) ≡ 0

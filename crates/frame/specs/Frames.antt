@@ -8,6 +8,7 @@ use Rattle.model.specs.Answers.Answer.{ok, refused}
 use Rattle.model.specs.Lines as model-lines
 use Rattle.model.specs.Lines.{lines}
 use Rattle.model.specs.Frames as model
+use Rattle.model.specs.Nets as nets
 use Rattle.frame.specs.declared.Cursor.{Cursor}
 use Rattle.frame.specs.declared.Op.{Op}
 use Rattle.frame.specs.declared.Op.the-variants.{And, Xor}
@@ -22,6 +23,11 @@ use Rattle.frame.specs.declared.Written.{Written}
 use Rattle.frame.specs.declared.Written.the-variants.{Done, Unwritten}
 
 -- ---- frames
+
+-- the operation of the definitions
+abbrev pub opOf : Op → nets.Op
+opOf And = nets.Op.and
+opOf Xor = nets.Op.xor
 
 abbrev pub gateKind : Op → ℕ
 gateKind And = model.andKind

@@ -1,12 +1,13 @@
 // A frame as its kind and fields, and its line written field by field.
 use crate::Frame;
-use crate::Op;
 use crate::kinds::EXTEND_BYTES;
 use crate::kinds::GATE_BYTES;
 use crate::kinds::HEADER_BYTES;
+use crate::kinds::Kind;
 use crate::kinds::OUTPUT_BYTES;
 use crate::kinds::REPORT_BYTES;
 use crate::kinds::RESOLVE_BYTES;
+use crate::kinds::byte_of;
 ghost use mathlib.Core.Path.{_≡_};
 ghost use Prim.Native.Nat.{_+_, _≤_, _<_};
 ghost use lib.Dec.{leb};
@@ -15,7 +16,7 @@ ghost use lib.Seq.{sets};
 ghost use Rattle.model.specs.Limits.{highestLine};
 ghost use Rattle.model.specs.Lines.{digitOf};
 ghost use Rattle.model.specs.Frames.{hex, lineOf, statedLine};
-ghost use Rattle.frame.specs.Frames.{gateKind, extendKind, frameOf, Spells};
+ghost use Rattle.frame.specs.Frames.{frameOf, Spells};
 
 // The highest line number that a report can state, in three bytes.
 pub const HIGHEST_LINE: usize = 0xFFFFFF;
@@ -28,24 +29,6 @@ pub struct Fields {
     pub widths: [usize; 4],
 }
 
-fn gate_kind(op: Op) -> u8
-    ensures { λ r. ⌜ r ≡ gateKind op ⌝ }
-{
-    match op {
-        Op::And => 0x02,
-        Op::Xor => 0x03,
-    }
-}
-
-fn extend_kind(op: Op) -> u8
-    ensures { λ r. ⌜ r ≡ extendKind op ⌝ }
-{
-    match op {
-        Op::And => 0x12,
-        Op::Xor => 0x13,
-    }
-}
-
 pub fn fields_of(frame: Frame) -> Fields
     ensures { λ r. ⌜ Spells r (frameOf frame) ⌝ }
 {
@@ -55,19 +38,19 @@ pub fn fields_of(frame: Frame) -> Fields
             gates,
             outputs,
         } => Fields {
-            kind: 0x01,
+            kind: byte_of(Kind::Header),
             count: 3,
             values: [inputs as usize, gates as usize, outputs as usize, 0],
             widths: [2, 4, 2, 0],
         },
         Frame::Gate { op, x, y } => Fields {
-            kind: gate_kind(op),
+            kind: byte_of(Kind::Gate(op)),
             count: 2,
             values: [x as usize, y as usize, 0, 0],
             widths: [4, 4, 0, 0],
         },
         Frame::Output { literal } => Fields {
-            kind: 0x04,
+            kind: byte_of(Kind::Output),
             count: 1,
             values: [literal as usize, 0, 0, 0],
             widths: [4, 0, 0, 0],
@@ -77,13 +60,13 @@ pub fn fields_of(frame: Frame) -> Fields
             second,
             variable,
         } => Fields {
-            kind: 0x11,
+            kind: byte_of(Kind::Resolve),
             count: 3,
             values: [first as usize, second as usize, variable as usize, 0],
             widths: [4, 4, 4, 0],
         },
         Frame::Extend { op, x, y } => Fields {
-            kind: extend_kind(op),
+            kind: byte_of(Kind::Extend(op)),
             count: 2,
             values: [x as usize, y as usize, 0, 0],
             widths: [4, 4, 0, 0],
@@ -94,7 +77,7 @@ pub fn fields_of(frame: Frame) -> Fields
             steps,
             clauses,
         } => Fields {
-            kind: 0x21,
+            kind: byte_of(Kind::Report),
             count: 4,
             values: [refusal as usize, line, steps as usize, clauses as usize],
             widths: [2, 6, 4, 4],

@@ -1,7 +1,8 @@
 // One line of a text as one frame, and back (document 01, 'Lines on the wire').
 // Every text gets an answer: nothing here asks anything of the bytes that it is given.
 pub mod fields; // a frame as its kind and fields, for writing
-pub mod kinds; // the table of kinds, for reading
+pub mod kinds; // the table of kinds
+pub mod read; // the fields of a line, by its kind
 pub mod report; // a report's line
 pub mod resolves; // a resolve's line, written without a loop
 
@@ -10,8 +11,8 @@ use digits::digits_at;
 use fields::line_len;
 use fields::line_number_fits;
 use fields::write_line;
-use kinds::Look;
-use kinds::frame_at;
+use read::Look;
+use read::frame_at;
 ghost use mathlib.Core.Path.{_≡_};
 ghost use Prim.Native.Nat.{ℕ, _<_, _≤_};
 ghost use lib.ListN.{drop, length};

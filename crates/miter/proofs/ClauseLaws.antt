@@ -11,7 +11,8 @@ use Rattle.model.specs.Clauses.{andClauses, xorClauses}
 use Rattle.model.specs.Miter.{gatesOf, clauseCount, behind, firstGateClause, firstZClause}
 use Rattle.frame.specs.declared.Op.{Op}
 use Rattle.frame.specs.declared.Op.the-variants.{And, Xor}
-use Rattle.netlist.specs.Again.{opOf, noGate}
+use Rattle.frame.specs.Frames.{opOf}
+use Rattle.gates.specs.Gates.{noGate}
 use Rattle.steps.specs.Progress.{clausesOf}
 
 -- as many as the gate's definition has

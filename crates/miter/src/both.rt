@@ -1,18 +1,19 @@
 // The gates and outputs of both lists in the miter's numbering: the right list's gates lie behind the left list's.
 use frame::Op;
+use gates::Gate;
+use gates::gate_at;
+use gates::op_at;
+use gates::output_at;
 use literal::Literal;
 use netlist::Pair;
-use netlist::again::Gate;
-use netlist::again::gate_at;
-use netlist::again::op_at;
-use netlist::again::output_at;
 ghost use mathlib.Core.Path.{_≡_};
 ghost use Prim.Native.Nat.{_+_, _≤_, _<_};
 ghost use lib.ListN.{getD};
 ghost use Rattle.model.specs.Limits.{mostGates};
 ghost use Rattle.model.specs.Miter as model;
 ghost use Rattle.model.specs.Miter.{gatesOf, zGates};
-ghost use Rattle.netlist.specs.Again.{opOf, gateMeant, noGate};
+ghost use Rattle.frame.specs.Frames.{opOf};
+ghost use Rattle.gates.specs.Gates.{gateMeant, noGate};
 ghost use Rattle.miter.specs.Miters.{Lists};
 
 // A right list's literal as the miter's: its gates lie behind the left list's.

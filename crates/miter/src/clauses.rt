@@ -7,7 +7,7 @@ use steps::clause_count;
 ghost use mathlib.Core.Path.{_≡_};
 ghost use Prim.Native.Nat.{_+_, _-_, _*_, _≤_};
 ghost use Rattle.model.specs.Miter.{clauseCount, firstZClause};
-ghost use Rattle.netlist.specs.Again.{opOf};
+ghost use Rattle.frame.specs.Frames.{opOf};
 ghost use Rattle.netlist.specs.Within.{Within};
 ghost use Rattle.miter.specs.Miters.{Lists};
 

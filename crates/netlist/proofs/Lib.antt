@@ -3,5 +3,4 @@ pub mod LineLaws
 pub mod LoopLaws
 pub mod PlainLaws
 pub mod ListLaws
-pub mod AgainLaws
 pub mod ReplyLaws

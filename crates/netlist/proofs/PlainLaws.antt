@@ -1,22 +1,21 @@
--- Lines known at one look: what such a line says of its list, a row of them one further, and the lines behind the row.
+-- Gates and outputs that stand at a place: what such a line says of its list, a row of them one further, and the lines behind the row.
 use Prim.Native.Nat.{ℕ, suc, _+_, _-_, _*_, _<_, _≤_}
-use mathlib.Core.Path.{_≡_, refl, _∙_}
-use mathlib.Core.Bool.{true, _&&_}
-use mathlib.Core.List.{List}
+use mathlib.Core.Path.{_≡_, refl, sym, _∙_}
+use mathlib.Core.Bool.{Bool, true, false}
+use mathlib.Core.List.{List, [], _∷_}
 use native.Mathlib.Nat.{add-zero}
 use native.Mathlib.Omega.{arith}
 use lib.ListN.{length}
 use Rattle.laws.specs.ListText.{gateBytes, outputBytes}
+use Rattle.model.specs.Frames.{outputKind}
 use Rattle.model.specs.Nets.{isBelow}
 use Rattle.frame.specs.declared.Cursor.{Cursor}
 use Rattle.frame.specs.declared.Op.{Op}
 use Rattle.frame.specs.declared.Frame.{Frame}
 use Rattle.frame.specs.declared.Frame.the-variants.{Gate, Output}
 use Rattle.frame.specs.declared.Line.the-variants.{Read}
-use Rattle.frame.specs.Frames.{first as firstLine, firstOf, Inside}
-use Rattle.frame.specs.declared.kinds.Look.{Look}
-use Rattle.frame.specs.declared.kinds.Look.the-variants.{Is}
-use Rattle.words.specs.Words.{Looked, Ends}
+use Rattle.frame.specs.Frames.{first as firstLine, firstOf, frameOf, gateKind, Inside}
+use Rattle.frame.specs.Fields.{LineAt}
 use Rattle.netlist.specs.declared.Behind.{Behind}
 use Rattle.netlist.specs.declared.Behind.the-variants as behind-case
 use Rattle.netlist.specs.Says.{from, GatesRead, GatesSay, OutputsRead, OutputsSay}
@@ -26,29 +25,24 @@ use Rattle.netlist.proofs.LoopLaws.{gates-none, gates-more, outputs-non
 
 -- ---- one line
 
-module _ (text : List ℕ) (at : ℕ) {look : Look} {f : Frame} {behind : ℕ} (h : Looked text at look) (is : look ≡ Is f behind) where
-  -- such a line as a line that was read
-  module _ (next : ℕ) (ends : Ends look next) (line : ℕ) (l : line ≤ suc at) where
-    reads : firstOf text (Read f (cursor next (line + 1))) ≡ firstLine (from text (cursor at line)) line
-    reads =
-        let k : Looked text at (Is f behind) = rw is at h in
-        let e : behind ≡ next = rw is at ends in
-        let s : line + 1 ≡ suc line = omega arith in
-        rw (← e, s) (k .2 line)
+-- a line that has this frame, as a line that was read
+module _ (text : List ℕ) (at : ℕ) (f : Frame) {n : ℕ} (l : LineAt text at (suc n) (frameOf f .kind) (frameOf f .fields)) (line : ℕ) where
+  reads : firstOf text (Read f (cursor (at + suc n) (line + 1))) ≡ firstLine (from text (cursor at line)) line
+  reads = let s : line + 1 ≡ suc line = omega arith in rw s (l .framed line)
 
-    inside : Inside text (cursor next (line + 1))
-    inside =
-        let k : Looked text at (Is f behind) = rw is at h in
-        let e : behind ≡ next = rw is at ends in
-        rw (← e) (record { at = k .1; line = omega (arith, k .0) })
+  inside : line ≤ suc at → Inside text (cursor (at + suc n) (line + 1))
+  inside h = record { at = l .room; line = omega arith }
 
-  pub plain-gate : {op : Op} {x y : ℕ} → f ≡ Gate op x y → Ends look (at + gateBytes) → (net : ℕ) → isBelow net x && isBelow net y ≡ true → PlainGate text at net true
-  plain-gate {op} {x} {y} g ends net b line l =
-      gate-read text (cursor at line) (Read f (cursor (at + gateBytes) (line + 1))) (reads (at + gateBytes) ends line l) f (cursor (at + gateBytes) (line + 1)) refl op x y g net b (inside (at + gateBytes) ends line l)
+module _ (text : List ℕ) (at : ℕ) where
+  pub plain-gate : (op : Op) (x y : ℕ) → LineAt text at gateBytes (gateKind op) (x ∷ y ∷ []) → (net : ℕ) → isBelow net x ≡ true → (r : Bool) → r ≡ isBelow net y → PlainGate text at net r
+  plain-gate op x y l net below false e = tt
+  plain-gate op x y l net below true e =
+      λ line h. gate-read text (cursor at line) _ (reads text at (Gate op x y) l line) (Gate op x y) _ refl op x y refl net (rw (below, ← e)) (inside text at (Gate op x y) l line h)
 
-  pub plain-output : {x : ℕ} → f ≡ Output x → Ends look (at + outputBytes) → (nets : ℕ) → isBelow nets x ≡ true → PlainOutput text at nets true
-  plain-output {x} g ends nets b line l =
-      output-read text (cursor at line) (Read f (cursor (at + outputBytes) (line + 1))) (reads (at + outputBytes) ends line l) f (cursor (at + outputBytes) (line + 1)) refl x g nets b (inside (at + outputBytes) ends line l)
+  pub plain-output : (x : ℕ) → LineAt text at outputBytes outputKind (x ∷ []) → (nets : ℕ) (r : Bool) → r ≡ isBelow nets x → PlainOutput text at nets r
+  plain-output x l nets false e = tt
+  plain-output x l nets true e =
+      λ line h. output-read text (cursor at line) _ (reads text at (Output x) l line) (Output x) _ refl x refl nets (sym e) (inside text at (Output x) l line h)
 
 -- ---- a row
 

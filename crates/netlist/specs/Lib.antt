@@ -1,5 +1,4 @@
 pub mod Says
 pub mod Replies
-pub mod Again
 pub mod Plain
 pub mod Within

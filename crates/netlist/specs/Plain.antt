@@ -1,4 +1,4 @@
--- What a line known at one look says of the list that it belongs to, and how far a row of such lines goes.
+-- What a gate or an output that stands at a place says of the list that it belongs to, and how far a row of them goes.
 use Prim.Native.Nat.{ℕ, suc, _+_, _*_, _≤_}
 use mathlib.Core.Bool.{Bool, true, false}
 use mathlib.Core.List.{List}

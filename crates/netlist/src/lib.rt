@@ -1,8 +1,7 @@
 // Gate lists read from a text (document 01, 'Lines on the wire'; refusals 2 to 7): one list, two lists, and two lists with lines behind them.
 // Every text gets an answer. Reading goes from the top; the first fault ends it, and no more of the text is looked at.
-pub mod again; // gates and outputs of a list that was read, by their place
 mod lines; // the lines of a list: header, gates, outputs, and the end
-mod plain; // gates and outputs in a row that are known at one look
+mod plain; // gates and outputs in a row
 
 use frame::Cursor;
 use frame::kinds::GATE_BYTES;

@@ -4,6 +4,7 @@ use crate::Behind;
 use crate::Counts;
 use crate::Part;
 use crate::Refusal;
+use crate::plain::is_below;
 use crate::plain::plain_gates;
 use crate::plain::plain_outputs;
 use frame::Cursor;
@@ -87,10 +88,10 @@ pub fn read_gate(text: &[u8], cursor: Cursor, net: usize) -> Behind
     let Frame::Gate { op: _, x, y } = frame else {
         return Behind::Refused(Refusal { number: 3, line });
     };
-    if net <= (x / 2) as usize {
+    if !is_below(net, x) {
         return Behind::Refused(Refusal { number: 7, line });
     }
-    if net <= (y / 2) as usize {
+    if !is_below(net, y) {
         return Behind::Refused(Refusal { number: 7, line });
     }
     Behind::At(next)
@@ -114,7 +115,7 @@ fn each_gate(text: &[u8], cursor: Cursor, first: usize, count: usize) -> Behind
     Behind::At(c)
 }
 
-// So many gates, of which the first is this net: those known at one look, and the others one by one.
+// So many gates, of which the first is this net: those of the row, and the others one by one.
 pub fn read_gates(text: &[u8], cursor: Cursor, first: usize, count: usize) -> Behind
     requires { ⌜ Inside (now text) cursor × (first ≤ 1 + mostInputs) × (count ≤ mostGates) ⌝ }
     ensures { λ r. ⌜ GatesSay (now (text .entry)) cursor first count r ⌝ }
@@ -143,7 +144,7 @@ pub fn read_output(text: &[u8], cursor: Cursor, nets: usize) -> Behind
     let Frame::Output { literal } = frame else {
         return Behind::Refused(Refusal { number: 3, line });
     };
-    if nets <= (literal / 2) as usize {
+    if !is_below(nets, literal) {
         return Behind::Refused(Refusal { number: 7, line });
     }
     Behind::At(next)
@@ -167,7 +168,7 @@ fn each_output(text: &[u8], cursor: Cursor, nets: usize, count: usize) -> Behind
     Behind::At(c)
 }
 
-// So many outputs: those known at one look, and the others one by one.
+// So many outputs: those of the row, and the others one by one.
 pub fn read_outputs(text: &[u8], cursor: Cursor, nets: usize, count: usize) -> Behind
     requires { ⌜ Inside (now text) cursor × (count ≤ mostOutputs) ⌝ }
     ensures { λ r. ⌜ OutputsSay (now (text .entry)) cursor nets count r ⌝ }

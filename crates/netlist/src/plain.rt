@@ -1,37 +1,48 @@
-// Gates and outputs in a row that are known at one look (`words::read`) and read nets that they may. Long lists have no others, and no cursor is
+// Gates and outputs in a row whose lines have their frames and read nets that they may. Long lists have no others, and neither frame nor cursor is
 // built for them: how many there are says where they end.
-use frame::Frame;
 use frame::kinds::GATE_BYTES;
-use frame::kinds::Look;
+use frame::kinds::Kind;
 use frame::kinds::OUTPUT_BYTES;
-use words::read::look_gate;
-use words::read::look_output;
+use frame::kinds::kind_at;
+use frame::read::Operands;
+use frame::read::Output;
+use frame::read::operands_at;
+use frame::read::output_at;
+use literal::Literal;
+ghost use mathlib.Core.Path.{_≡_};
 ghost use Prim.Native.Nat.{_+_, _≤_};
 ghost use lib.ListN.{length};
 ghost use Rattle.model.specs.Limits.{mostInputs, mostGates, mostOutputs};
+ghost use Rattle.model.specs.Nets.{isBelow};
 ghost use Rattle.netlist.specs.Plain.{PlainGate, PlainGates, PlainOutput, PlainOutputs};
 
-// Whether the gate that is this net is known.
+// Whether a literal is over a net below this one.
+pub fn is_below(net: usize, literal: u16) -> bool
+    ensures { λ r. ⌜ r ≡ isBelow net literal ⌝ }
+{
+    (Literal::of(literal).variable() as usize) < net
+}
+
+// Whether the gate that is this net stands at a place.
 fn plain_gate(text: &[u8], at: usize, net: usize) -> bool
     requires { ⌜ at ≤ length (now text) ⌝ }
     ensures { λ r. ⌜ PlainGate (now (text .entry)) at net r ⌝ }
 {
-    let Look::Is(frame, _) = look_gate(text, at) else {
+    let kind = kind_at(text, at);
+    let Kind::Gate(_) = kind else {
         return false;
     };
-    let Frame::Gate { op: _, x, y } = frame else {
+    let operands = operands_at(text, at);
+    let Operands::Are(x, y) = operands else {
         return false;
     };
-    if net <= (x / 2) as usize {
+    if !is_below(net, x) {
         return false;
     }
-    if net <= (y / 2) as usize {
-        return false;
-    }
-    true
+    is_below(net, y)
 }
 
-// How many of so many gates are known, of which the first is this net.
+// How many of so many gates stand at a place, of which the first is this net.
 pub fn plain_gates(text: &[u8], at: usize, first: usize, count: usize) -> usize
     requires { ⌜ (at ≤ length (now text)) × (first ≤ 1 + mostInputs) × (count ≤ mostGates) ⌝ }
     ensures { λ r. ⌜ PlainGates (now (text .entry)) at first count r ⌝ }
@@ -46,24 +57,23 @@ pub fn plain_gates(text: &[u8], at: usize, first: usize, count: usize) -> usize
     i
 }
 
-// Whether the output of a list with so many nets is known.
+// Whether an output of a list with so many nets stands at a place.
 fn plain_output(text: &[u8], at: usize, nets: usize) -> bool
     requires { ⌜ at ≤ length (now text) ⌝ }
     ensures { λ r. ⌜ PlainOutput (now (text .entry)) at nets r ⌝ }
 {
-    let Look::Is(frame, _) = look_output(text, at) else {
+    let kind = kind_at(text, at);
+    let Kind::Output = kind else {
         return false;
     };
-    let Frame::Output { literal } = frame else {
+    let output = output_at(text, at);
+    let Output::Is(literal) = output else {
         return false;
     };
-    if nets <= (literal / 2) as usize {
-        return false;
-    }
-    true
+    is_below(nets, literal)
 }
 
-// How many of so many outputs are known.
+// How many of so many outputs stand at a place.
 pub fn plain_outputs(text: &[u8], at: usize, nets: usize, count: usize) -> usize
     requires { ⌜ (at ≤ length (now text)) × (count ≤ mostOutputs) ⌝ }
     ensures { λ r. ⌜ PlainOutputs (now (text .entry)) at nets count r ⌝ }

@@ -23,9 +23,9 @@ use Rattle.clause.specs.declared.resolution.Outcome.{Outcome}
 use Rattle.clause.specs.declared.resolution.Outcome.the-variants.{Joined, Missing, TooLong}
 use Rattle.clause.specs.Sets.{Rising, Proper, literalsOf, fitted, resolveOf, outcomeOf, Answers}
 use Rattle.clause.proofs.SetLaws.{rising-resolvent}
-use Rattle.netlist.specs.Again.{opOf}
 use Rattle.frame.specs.declared.Op.{Op}
 use Rattle.frame.specs.declared.Op.the-variants.{And, Xor}
+use Rattle.frame.specs.Frames.{opOf}
 use Rattle.steps.specs.declared.Progress.{Progress}
 use Rattle.steps.specs.Progress.{clausesOf, extension, Held, Tracks}
 use Rattle.steps.proofs.HeldLaws.{proper-at, held-more}

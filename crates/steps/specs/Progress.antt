@@ -10,9 +10,9 @@ use Rattle.model.specs.Clauses.{Clause, andClauses, xorClauses}
 use Rattle.model.specs.Steps.{State, Step}
 use Rattle.model.specs.Steps.Step.{extend}
 use Rattle.model.specs.Checker.{storedAll}
-use Rattle.netlist.specs.Again.{opOf}
 use Rattle.frame.specs.declared.Op.{Op}
 use Rattle.frame.specs.declared.Op.the-variants.{And, Xor}
+use Rattle.frame.specs.Frames.{opOf}
 use Rattle.literal.specs.declared.Literal.{Literal}
 use Rattle.clause.specs.Sets.{Proper}
 use Rattle.steps.specs.declared.Progress.{Progress}

@@ -1,9 +1,9 @@
 // The values of nets, a byte of 0 or 1 each in a lent slice: net 0 and the inputs, then what each gate makes of those before it. The gates and
 // the outputs are those of the list that stands at a place of a text; nothing here reads or refuses a list.
 use frame::Op;
+use gates::gate_at;
+use gates::output_at;
 use literal::Literal;
-use netlist::again::gate_at;
-use netlist::again::output_at;
 ghost use mathlib.Core.Path.{_≡_};
 ghost use Prim.Native.Nat.{ℕ, _+_, _≤_, _<_};
 ghost use mathlib.Core.Bool.{Bool};
@@ -12,7 +12,7 @@ ghost use lib.ListN.{length, drop};
 ghost use Rattle.model.specs.Limits.{mostInputs, mostGates, mostOutputs};
 ghost use Rattle.model.specs.Nets.{Netlist, netOf, bit, apply, literal, start, nets, eval};
 ghost use Rattle.laws.specs.ListText.{Stands};
-ghost use Rattle.netlist.specs.Again.{opOf};
+ghost use Rattle.frame.specs.Frames.{opOf};
 ghost use Rattle.values.specs.Values.{HoldsValues};
 
 // AND or XOR of two values.

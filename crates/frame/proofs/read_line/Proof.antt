@@ -1,13 +1,13 @@
 -- The line has a frame, and the cursor behind it is in the text with a line that has not outrun it; or it has none.
 use native.Mathlib.Omega.{arith}
 use denote.Ref.{now}
-use Rattle.frame.proofs.KindLaws.{look-framed, look-unframed, nowhere}
+use Rattle.frame.proofs.FieldLaws.{look-framed, look-unframed, nowhere}
 use borrow.Author.Needs.{needs}
 use Rattle.frame.proofs.read_line.Statement.{statement}
 use Rattle.frame.proofs.read_line.Tie as tie
 use Rattle.frame.proofs.read_line.Reads as reads
 use Rattle.frame.proofs.read_line.Lts as lts
-use Rattle.frame.proofs.kinds.frame_at.Reads as frame-at-reads
+use Rattle.frame.proofs.read.frame_at.Reads as frame-at-reads
 use Rattle.frame.proofs.unframed.Reads as unframed-reads
 
 frame-at-requires : tie.Need-frame-at-requires

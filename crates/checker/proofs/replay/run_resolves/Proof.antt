@@ -1,21 +1,19 @@
 -- The invariant: the lines up to the cursor are replayed, whatever the state was (`ReplayLaws`). The measure is what is left of the text.
 use Prim.Native.Nat.{_+_, _-_, _≤_}
-use mathlib.Core.Path.{_≡_, refl, _∙_}
+use mathlib.Core.Path.{_≡_, _∙_}
 use native.Mathlib.Omega.{arith}
 use borrow.Author.Needs.{needs}
 use denote.Ref.{now}
 use lib.ListN.{length}
-use Rattle.frame.specs.declared.Cursor.{Cursor}
-use Rattle.frame.specs.declared.Line.the-variants.{Read}
-use Rattle.words.proofs.LookLaws.{read-look}
 use Rattle.checker.specs.Replays.{RanTo}
-use Rattle.checker.proofs.ReplayLaws.{ran-none, ran-joined, ran-refused, ran-line, line-refused}
+use Rattle.checker.proofs.ReplayLaws.{ran-none, ran-joined, ran-refused, resolve-line, behind-resolve, ran-resolve, resolve-refused}
 use Rattle.checker.proofs.replay.run_resolves.Statement.{statement}
 use Rattle.checker.proofs.replay.run_resolves.Tie as tie
 use Rattle.checker.proofs.replay.run_resolves.Reads as reads
 use Rattle.checker.proofs.replay.run_resolves.Lts as lts
-use Rattle.checker.proofs.replay.frame_step.Reads as frame-step-reads
-use Rattle.words.proofs.read.look_resolve.Reads as look-resolve-reads
+use Rattle.frame.proofs.kinds.kind_at.Reads as kind-at-reads
+use Rattle.frame.proofs.read.resolve_at.Reads as resolve-at-reads
+use Rattle.steps.proofs.resolve_step.Reads as resolve-step-reads
 
 abbrev Inv-loop : tie.InvT-loop
 Inv-loop text store₀ room c₀ p₀ store c p = RanTo room text c₀ store₀ p₀ store c p × (c₀ .at ≤ c .at)
@@ -26,75 +24,119 @@ abbrev μ-loop : tie.MeasureT-loop
 loop-holds : tie.Need-loop-holds Inv-loop μ-loop
 loop-holds c = (ran-none (c .before .before .pre .0) (c .before .before .pre .1), omega arith)
 
-look-resolve-requires : tie.Need-look-resolve-requires Inv-loop μ-loop
-look-resolve-requires c κs = c .loop .inv .0 .inside .at
-
-enum-known-look : tie.Need-enum-known-look Inv-loop μ-loop
-enum-known-look c = search needs
+kind-at-requires : tie.Need-kind-at-requires Inv-loop μ-loop
+kind-at-requires c κs = c .loop .inv .0 .inside .at
 
 enum-told : tie.Need-enum-told Inv-loop μ-loop
 enum-told c = search needs
 
 same-length : tie.Need-same-length Inv-loop μ-loop
-same-length c = c .before .before .before .loop .inv .0 .long
+same-length c = c .before .before .loop .inv .0 .long
 
 returns : tie.Need-returns Inv-loop μ-loop
-returns c = c .before .before .before .loop .inv
+returns c = c .before .before .loop .inv
 
-frame-step-requires : tie.Need-frame-step-requires Inv-loop μ-loop
-frame-step-requires c κs = c .before .before .before .before .before .loop .inv .0 .within
+resolve-at-requires : tie.Need-resolve-at-requires Inv-loop μ-loop
+resolve-at-requires c κs = c .before .before .before .loop .inv .0 .inside .at
+
+enum-known-resolve : tie.Need-enum-known-resolve Inv-loop μ-loop
+enum-known-resolve c = search needs
+
+enum-told-2 : tie.Need-enum-told-2 Inv-loop μ-loop
+enum-told-2 c = search needs
+
+same-length-2 : tie.Need-same-length-2 Inv-loop μ-loop
+same-length-2 c = c .before .before .before .before .before .before .loop .inv .0 .long
+
+returns-2 : tie.Need-returns-2 Inv-loop μ-loop
+returns-2 c = c .before .before .before .before .before .before .loop .inv
+
+cast-resolve-step : tie.Need-cast-resolve-step Inv-loop μ-loop
+cast-resolve-step c = search needs
+
+cast-resolve-step-2 : tie.Need-cast-resolve-step-2 Inv-loop μ-loop
+cast-resolve-step-2 c = search needs
+
+resolve-step-requires : tie.Need-resolve-step-requires Inv-loop μ-loop
+resolve-step-requires c κs = c .before .before .before .before .before .before .before .before .loop .inv .0 .within
 
 enum-known-stepped : tie.Need-enum-known-stepped Inv-loop μ-loop
 enum-known-stepped c = search needs
 
-add-t17 : tie.Need-add-t17 Inv-loop μ-loop
-add-t17 c =
-    let a = c .before .before .before .before .before .before .before .before .before .before .before .before .before .before .args in
-    let l = c .before .before .before .before .before .before .before .before .before .before .before .loop in
-    let k = read-look (now (a .text)) (l .c) (l .inv .0 .inside .line) (c .before .before .before .before .before .before .before .before .before .before .look-resolve .ensures) (c .before .before .before .before .before .before .before .before .look .given .1) in
-    let m = k .1 .0 .at in
-    let n = k .1 .0 .line in
+add-t21 : tie.Need-add-t21 Inv-loop μ-loop
+add-t21 c =
+    let stepped = c .before .before .before .before .before .before in
+    let read = stepped .before .before .before in
+    let told = read .before .before .before in
+    let loop = told .before .before .before in
+    let a = loop .before .before .before .args in
+    let l = loop .loop in
+    let line = resolve-line (now (a .text)) (l .c .at) (told .before .before .kind-at .ensures) (told .enum-told .given .1) (read .before .before .resolve-at .ensures) (read .resolve .given .1) in
+    let room = line .room in
+    search needs
+
+add-t22 : tie.Need-add-t22 Inv-loop μ-loop
+add-t22 c =
+    let stepped = c .before .before .before .before .before .before in
+    let read = stepped .before .before .before in
+    let told = read .before .before .before in
+    let loop = told .before .before .before in
+    let a = loop .before .before .before .args in
+    let l = loop .loop in
+    let line = resolve-line (now (a .text)) (l .c .at) (told .before .before .kind-at .ensures) (told .enum-told .given .1) (read .before .before .resolve-at .ensures) (read .resolve .given .1) in
+    let behind = behind-resolve (a .room) (now (a .text)) (l .c) (l .inv .0 .inside) line in
+    let at = behind .at in
+    let after = behind .line in
     search needs
 
 loop-less : tie.Need-loop-less Inv-loop μ-loop
 loop-less c =
-    let a = c .before .before .before .before .before .before .before .before .before .before .before .before .before .before .args in
-    let l = c .before .before .before .before .before .before .before .before .before .before .before .loop in
-    let look = c .before .before .before .before .before .before .before .before .look .given in
-    let known = read-look (now (a .text)) (l .c) (l .inv .0 .inside .line) (c .before .before .before .before .before .before .before .before .before .before .look-resolve .ensures) (look .1) in
-    omega (arith, known .1 .1, known .1 .0 .at)
+    let stepped = c .before .before .before .before .before .before in
+    let read = stepped .before .before .before in
+    let told = read .before .before .before in
+    let loop = told .before .before .before in
+    let a = loop .before .before .before .args in
+    let l = loop .loop in
+    let line = resolve-line (now (a .text)) (l .c .at) (told .before .before .kind-at .ensures) (told .enum-told .given .1) (read .before .before .resolve-at .ensures) (read .resolve .given .1) in
+    omega (arith, line .room)
 
 loop-again : tie.Need-loop-again Inv-loop μ-loop
 loop-again c =
-    let a = c .before .before .before .before .before .before .before .before .before .before .before .before .before .before .args in
-    let l = c .before .before .before .before .before .before .before .before .before .before .before .loop in
-    let look = c .before .before .before .before .before .before .before .before .look .given in
-    let known = read-look (now (a .text)) (l .c) (l .inv .0 .inside .line) (c .before .before .before .before .before .before .before .before .before .before .look-resolve .ensures) (look .1) in
-    let f = look .0 .0 in
-    let next : Cursor = record { at = look .0 .1 .0; line = l .c .line + 1 } in
-    let step = c .before .before .before .before .before .frame-step in
+    let stepped = c .before .before .before .before .before .before in
+    let read = stepped .before .before .before in
+    let told = read .before .before .before in
+    let loop = told .before .before .before in
+    let a = loop .before .before .before .args in
+    let l = loop .loop in
+    let line = resolve-line (now (a .text)) (l .c .at) (told .before .before .kind-at .ensures) (told .enum-told .given .1) (read .before .before .resolve-at .ensures) (read .resolve .given .1) in
+    let step = stepped .resolve-step in
     let e : length (step .last .0) ≡ length (l .store) = search needs in
-    (ran-joined (l .inv .0) (ran-line (a .room) (now (a .text)) (l .c) (Read f next) (known .0) f next refl (l .store) (l .p) (step .last .0) _ (known .1 .0) (l .inv .0 .within) e (λ s t. rw (c .before .stepped .given .1) at (step .ensures s t))), omega (arith, known .1 .1))
+    (ran-joined (l .inv .0) (ran-resolve (a .room) (now (a .text)) (l .c) (l .inv .0 .inside) line (l .store) (l .p) (step .last .0) _ (l .inv .0 .within) e (λ s t. rw (c .before .before .stepped .given .1) at (step .ensures s t))), omega (arith, l .inv .1))
 
 enum-known-stepped-2 : tie.Need-enum-known-stepped-2 Inv-loop μ-loop
 enum-known-stepped-2 c = search needs
 
-same-length-2 : tie.Need-same-length-2 Inv-loop μ-loop
-same-length-2 c =
-    let l = c .before .before .before .before .before .before .before .before .before .before .before .loop in
-    let e : length (c .before .before .before .before .before .frame-step .last .0) ≡ length (l .store) = search needs in
+same-length-3 : tie.Need-same-length-3 Inv-loop μ-loop
+same-length-3 c =
+    let stepped = c .before .before .before .before .before in
+    let read = stepped .before .before .before in
+    let told = read .before .before .before in
+    let loop = told .before .before .before in
+    let l = loop .loop in
+    let e : length (stepped .resolve-step .last .0) ≡ length (l .store) = search needs in
     e ∙ l .inv .0 .long
 
-returns-2 : tie.Need-returns-2 Inv-loop μ-loop
-returns-2 c =
-    let a = c .before .before .before .before .before .before .before .before .before .before .before .before .before .before .args in
-    let l = c .before .before .before .before .before .before .before .before .before .before .before .loop in
-    let look = c .before .before .before .before .before .before .before .before .look .given in
-    let known = read-look (now (a .text)) (l .c) (l .inv .0 .inside .line) (c .before .before .before .before .before .before .before .before .before .before .look-resolve .ensures) (look .1) in
-    let f = look .0 .0 in
-    let next : Cursor = record { at = look .0 .1 .0; line = l .c .line + 1 } in
-    let step = c .before .before .before .before .before .frame-step in
-    ran-refused (l .inv .0) _ _ (line-refused (a .room) (now (a .text)) (l .c) (Read f next) (known .0) f next refl (l .store) (l .p) _ (step .last .0) (λ s t. rw (c .before .stepped2 .given .1) at (step .ensures s t)))
+returns-3 : tie.Need-returns-3 Inv-loop μ-loop
+returns-3 c =
+    let stepped = c .before .before .before .before .before in
+    let read = stepped .before .before .before in
+    let told = read .before .before .before in
+    let loop = told .before .before .before in
+    let a = loop .before .before .before .args in
+    let l = loop .loop in
+    let line = resolve-line (now (a .text)) (l .c .at) (told .before .before .kind-at .ensures) (told .enum-told .given .1) (read .before .before .resolve-at .ensures) (read .resolve .given .1) in
+    let step = stepped .resolve-step in
+    ran-refused (l .inv .0) _ _ (resolve-refused (a .room) (now (a .text)) (l .c) (l .inv .0 .inside) line (l .store) (l .p) (step .last .0) _ (λ s t. rw (c .before .stepped2 .given .1) at (step .ensures s t)))
 
 pub run-resolves-spec : {M : Type 1} → statement M
 run-resolves-spec =
@@ -103,16 +145,23 @@ run-resolves-spec =
     Inv-loop
     μ-loop
     loop-holds
-    look-resolve-requires
-    enum-known-look
+    kind-at-requires
     enum-told
     same-length
     returns
-    frame-step-requires
+    resolve-at-requires
+    enum-known-resolve
+    enum-told-2
+    same-length-2
+    returns-2
+    cast-resolve-step
+    cast-resolve-step-2
+    resolve-step-requires
     enum-known-stepped
-    add-t17
+    add-t21
+    add-t22
     loop-less
     loop-again
     enum-known-stepped-2
-    same-length-2
-    returns-2)
+    same-length-3
+    returns-3)

@@ -4,7 +4,8 @@ use native.Mathlib.Omega.{arith}
 use denote.Ref.{now}
 use Rattle.model.specs.Nets.{Gate}
 use Rattle.laws.specs.Literals.{literals-below}
-use Rattle.netlist.specs.Again.{opOf, gateMeant}
+use Rattle.frame.specs.Frames.{opOf}
+use Rattle.gates.specs.Gates.{gateMeant}
 use Rattle.miter.proofs.MiterLaws.{meant}
 use Rattle.miter.proofs.ClauseLaws.{few-each}
 use Rattle.emit.specs.Pass.{GateDone}

@@ -1,7 +1,8 @@
 -- Each arm knows its case of the enum, and a line's length is the total of its fields' widths (`line-by-widths`).
+use mathlib.Core.Bool.{true, false}
 use mathlib.Core.Path.{refl, sym}
 use Rattle.model.specs.Frames.{widths, total}
-use Rattle.frame.proofs.WriteLaws.{gate-widths, extend-widths, line-by-widths}
+use Rattle.frame.proofs.WriteLaws.{operands-widths, line-by-widths}
 use borrow.Author.Needs.{needs}
 use Rattle.frame.proofs.fields.line_len.Statement.{statement}
 use Rattle.frame.proofs.fields.line_len.Tie as tie
@@ -32,7 +33,7 @@ returns c = rw (c .enum-told .given .1) (sym (line-by-widths _ _ refl refl))
 
 returns-2 : tie.Need-returns-2
 unfolding widths total
-returns-2 c = rw (c .enum-told2 .given .1) (sym (line-by-widths _ _ (gate-widths (c .enum-told2 .given .0 .0)) refl))
+returns-2 c = rw (c .enum-told2 .given .1) (sym (line-by-widths _ _ (sym (operands-widths false (c .enum-told2 .given .0 .0))) refl))
 
 returns-3 : tie.Need-returns-3
 unfolding widths total
@@ -44,7 +45,7 @@ returns-4 c = rw (c .enum-told4 .given .1) (sym (line-by-widths _ _ refl refl))
 
 returns-5 : tie.Need-returns-5
 unfolding widths total
-returns-5 c = rw (c .enum-told5 .given .1) (sym (line-by-widths _ _ (extend-widths (c .enum-told5 .given .0 .0)) refl))
+returns-5 c = rw (c .enum-told5 .given .1) (sym (line-by-widths _ _ (sym (operands-widths true (c .enum-told5 .given .0 .0))) refl))
 
 returns-6 : tie.Need-returns-6
 unfolding widths total

@@ -1,7 +1,5 @@
 -- The reader's answer, then the kind, then both literals: each return is the definition's own case (`LineLaws`).
-use Prim.Native.Nat.{_/_}
-use native.Mathlib.Omega.{arith}
-use borrow.Author.Tests.{lt-ltb, le-ltb}
+use borrow.Author.Tests.{not-true, not-false}
 use denote.Ref.{now}
 use Rattle.netlist.specs.Says.{from}
 use Rattle.netlist.proofs.DueLaws.{due-missing, gate-due}
@@ -13,6 +11,7 @@ use Rattle.netlist.proofs.lines.read_gate.Reads as reads
 use Rattle.netlist.proofs.lines.read_gate.Lts as lts
 use Rattle.frame.proofs.read_line.Reads as read-line-reads
 use Rattle.netlist.proofs.lines.missing.Reads as missing-reads
+use Rattle.netlist.proofs.plain.is_below.Reads as is-below-reads
 
 read-line-requires : tie.Need-read-line-requires
 read-line-requires c κs = search needs
@@ -39,37 +38,43 @@ returns-2 c =
     let got = c .before .before .got .given in
     λ k m n s. gate-other (now (a .text)) (a .cursor) (one .result) (one .ensures .0) _ _ (got .1) (not-gate (got .0 .0) (c .match2 .keys2)) k m n
 
-cast-if1 : tie.Need-cast-if1
-cast-if1 c = search needs
+is-below-requires : tie.Need-is-below-requires
+is-below-requires c κs = search needs
 
 returns-3 : tie.Need-returns-3
 returns-3 c =
-    let a = c .before .before .before .before .before .before .before .before .before .args in
-    let one = c .before .before .before .before .before .before .before .read-line in
-    let got = c .before .before .before .before .before .got .given in
-    let gate = c .before .before .frame .given in
-    gate-over (now (a .text)) (a .cursor) (one .result) (one .ensures .0) _ _ (got .1) _ _ _ (gate .1) (a .net) (rw (le-ltb (gate .0 .1 .0 / 2) (a .net) (omega arith)))
+    let gate = c .before .before .before in
+    let one = gate .before .before .before .before .before in
+    let a = one .before .before .args in
+    let got = gate .before .before .before .got .given in
+    let x = c .before .is-below in
+    gate-over (now (a .text)) (a .cursor) (one .read-line .result) (one .read-line .ensures .0) _ _ (got .1) _ _ _ (gate .frame .given .1) (a .net) (rw (← x .ensures, not-true (x .result) (c .if1 .taken)))
 
-cast-if2 : tie.Need-cast-if2
-cast-if2 c = search needs
+is-below-requires-2 : tie.Need-is-below-requires-2
+is-below-requires-2 c κs = search needs
 
 returns-4 : tie.Need-returns-4
 returns-4 c =
-    let a = c .before .before .before .before .before .before .before .before .before .before .args in
-    let one = c .before .before .before .before .before .before .before .before .read-line in
-    let got = c .before .before .before .before .before .before .got .given in
-    let gate = c .before .before .before .frame .given in
-    gate-over (now (a .text)) (a .cursor) (one .result) (one .ensures .0) _ _ (got .1) _ _ _ (gate .1) (a .net) (rw (lt-ltb (gate .0 .1 .0 / 2) (a .net) (omega arith), le-ltb (gate .0 .1 .1 .0 / 2) (a .net) (omega arith)))
+    let gate = c .before .before .before .before .before in
+    let one = gate .before .before .before .before .before in
+    let a = one .before .before .args in
+    let got = gate .before .before .before .got .given in
+    let x = c .before .before .before .is-below in
+    let y = c .before .is-below2 in
+    gate-over (now (a .text)) (a .cursor) (one .read-line .result) (one .read-line .ensures .0) _ _ (got .1) _ _ _ (gate .frame .given .1) (a .net)
+    (rw (← x .ensures, not-false (x .result) (c .before .before .if1 .left), ← y .ensures, not-true (y .result) (c .if2 .taken)))
 
 returns-5 : tie.Need-returns-5
 returns-5 c =
-    let a = c .before .before .before .before .before .before .before .before .before .before .args in
-    let one = c .before .before .before .before .before .before .before .before .read-line in
-    let got = c .before .before .before .before .before .before .got .given in
-    let gate = c .before .before .before .frame .given in
-    gate-read (now (a .text)) (a .cursor) (one .result) (one .ensures .0) _ _ (got .1) _ _ _ (gate .1) (a .net)
-    (rw (lt-ltb (gate .0 .1 .0 / 2) (a .net) (omega arith), lt-ltb (gate .0 .1 .1 .0 / 2) (a .net) (omega arith)))
-    ((rw (got .1) at (one .ensures .1)) .0)
+    let gate = c .before .before .before .before .before in
+    let one = gate .before .before .before .before .before in
+    let a = one .before .before .args in
+    let got = gate .before .before .before .got .given in
+    let x = c .before .before .before .is-below in
+    let y = c .before .is-below2 in
+    gate-read (now (a .text)) (a .cursor) (one .read-line .result) (one .read-line .ensures .0) _ _ (got .1) _ _ _ (gate .frame .given .1) (a .net)
+    (rw (← x .ensures, not-false (x .result) (c .before .before .if1 .left), ← y .ensures, not-false (y .result) (c .if2 .left)))
+    ((rw (got .1) at (one .read-line .ensures .1)) .0)
 
 pub read-gate-spec : {M : Type 1} → statement M
 read-gate-spec =
@@ -81,8 +86,8 @@ read-gate-spec =
     returns
     enum-known-frame
     returns-2
-    cast-if1
+    is-below-requires
     returns-3
-    cast-if2
+    is-below-requires-2
     returns-4
     returns-5)

@@ -1,7 +1,6 @@
 -- The reader's answer, then the kind, then the literal: each return is the definition's own case (`LineLaws`).
-use Prim.Native.Nat.{_/_}
-use native.Mathlib.Omega.{arith}
-use borrow.Author.Tests.{lt-ltb, le-ltb}
+use mathlib.Core.Path.{sym, _∙_}
+use borrow.Author.Tests.{not-true, not-false}
 use denote.Ref.{now}
 use Rattle.netlist.specs.Says.{from}
 use Rattle.netlist.proofs.DueLaws.{due-missing, output-due}
@@ -13,6 +12,7 @@ use Rattle.netlist.proofs.lines.read_output.Reads as reads
 use Rattle.netlist.proofs.lines.read_output.Lts as lts
 use Rattle.frame.proofs.read_line.Reads as read-line-reads
 use Rattle.netlist.proofs.lines.missing.Reads as missing-reads
+use Rattle.netlist.proofs.plain.is_below.Reads as is-below-reads
 
 read-line-requires : tie.Need-read-line-requires
 read-line-requires c κs = search needs
@@ -39,24 +39,24 @@ returns-2 c =
     let got = c .before .before .got .given in
     λ k n s. output-other (now (a .text)) (a .cursor) (one .result) (one .ensures .0) _ _ (got .1) (not-output (got .0 .0) (c .match2 .keys2)) k n
 
-cast-if1 : tie.Need-cast-if1
-cast-if1 c = search needs
+is-below-requires : tie.Need-is-below-requires
+is-below-requires c κs = search needs
 
 returns-3 : tie.Need-returns-3
 returns-3 c =
-    let a = c .before .before .before .before .before .before .before .before .before .args in
-    let one = c .before .before .before .before .before .before .before .read-line in
-    let got = c .before .before .before .before .before .got .given in
-    let output = c .before .before .frame .given in
-    output-over (now (a .text)) (a .cursor) (one .result) (one .ensures .0) _ _ (got .1) _ (output .1) (a .nets) (le-ltb (output .0 .0 / 2) (a .nets) (omega arith))
+    let output = c .before .before .before in
+    let one = output .before .before .before .before .before in
+    let a = one .before .before .args in
+    let got = output .before .before .before .got .given in
+    output-over (now (a .text)) (a .cursor) (one .read-line .result) (one .read-line .ensures .0) _ _ (got .1) _ (output .frame .given .1) (a .nets) (sym (c .before .is-below .ensures) ∙ not-true _ (c .if1 .taken))
 
 returns-4 : tie.Need-returns-4
 returns-4 c =
-    let a = c .before .before .before .before .before .before .before .before .before .args in
-    let one = c .before .before .before .before .before .before .before .read-line in
-    let got = c .before .before .before .before .before .got .given in
-    let output = c .before .before .frame .given in
-    output-read (now (a .text)) (a .cursor) (one .result) (one .ensures .0) _ _ (got .1) _ (output .1) (a .nets) (lt-ltb (output .0 .0 / 2) (a .nets) (omega arith)) ((rw (got .1) at (one .ensures .1)) .0)
+    let output = c .before .before .before in
+    let one = output .before .before .before .before .before in
+    let a = one .before .before .args in
+    let got = output .before .before .before .got .given in
+    output-read (now (a .text)) (a .cursor) (one .read-line .result) (one .read-line .ensures .0) _ _ (got .1) _ (output .frame .given .1) (a .nets) (sym (c .before .is-below .ensures) ∙ not-false _ (c .if1 .left)) ((rw (got .1) at (one .read-line .ensures .1)) .0)
 
 pub read-output-spec : {M : Type 1} → statement M
 read-output-spec =
@@ -68,6 +68,6 @@ read-output-spec =
     returns
     enum-known-frame
     returns-2
-    cast-if1
+    is-below-requires
     returns-3
     returns-4)

@@ -1,21 +1,21 @@
--- The line is known, and both literals are over nets below (`plain-gate`).
-use Prim.Native.Nat.{_/_}
-use native.Mathlib.Omega.{arith}
-use borrow.Author.Tests.{lt-ltb}
+-- The line is a gate's, and both literals are over nets below (`plain-gate`).
+use mathlib.Core.Path.{sym, _∙_}
+use mathlib.Core.Bool.{false}
+use borrow.Author.Tests.{not-false}
 use denote.Ref.{now}
+use Rattle.frame.proofs.WriteLaws.{operands-widths}
 use Rattle.netlist.proofs.PlainLaws.{plain-gate}
 use borrow.Author.Needs.{needs}
 use Rattle.netlist.proofs.plain.plain_gate.Statement.{statement}
 use Rattle.netlist.proofs.plain.plain_gate.Tie as tie
 use Rattle.netlist.proofs.plain.plain_gate.Reads as reads
 use Rattle.netlist.proofs.plain.plain_gate.Lts as lts
-use Rattle.words.proofs.read.look_gate.Reads as look-gate-reads
+use Rattle.frame.proofs.kinds.kind_at.Reads as kind-at-reads
+use Rattle.frame.proofs.read.operands_at.Reads as operands-at-reads
+use Rattle.netlist.proofs.plain.is_below.Reads as is-below-reads
 
-look-gate-requires : tie.Need-look-gate-requires
-look-gate-requires c κs = search needs
-
-enum-known-frame : tie.Need-enum-known-frame
-enum-known-frame c = search needs
+kind-at-requires : tie.Need-kind-at-requires
+kind-at-requires c κs = search needs
 
 enum-told : tie.Need-enum-told
 enum-told c = search needs
@@ -23,43 +23,50 @@ enum-told c = search needs
 returns : tie.Need-returns
 returns c = search needs
 
-enum-known-frame-2 : tie.Need-enum-known-frame-2
-enum-known-frame-2 c = search needs
+operands-at-requires : tie.Need-operands-at-requires
+operands-at-requires c κs = search needs
+
+enum-known-operands : tie.Need-enum-known-operands
+enum-known-operands c = search needs
+
+enum-told-2 : tie.Need-enum-told-2
+enum-told-2 c = search needs
 
 returns-2 : tie.Need-returns-2
 returns-2 c = search needs
 
-cast-if1 : tie.Need-cast-if1
-cast-if1 c = search needs
+is-below-requires : tie.Need-is-below-requires
+is-below-requires c κs = search needs
 
 returns-3 : tie.Need-returns-3
 returns-3 c = search needs
 
-cast-if2 : tie.Need-cast-if2
-cast-if2 c = search needs
+is-below-requires-2 : tie.Need-is-below-requires-2
+is-below-requires-2 c κs = search needs
 
 returns-4 : tie.Need-returns-4
-returns-4 c = search needs
-
-returns-5 : tie.Need-returns-5
-returns-5 c =
-    let a = c .before .before .before .before .before .before .before .before .before .before .args in
-    let look = c .before .before .before .before .before .before .before .before .look-gate in
-    let gate = c .before .before .before .frame2 .given in
-    plain-gate (now (a .text)) (a .at) (look .ensures .0) (c .before .before .before .before .before .before .frame .given .1) (gate .1) (look .ensures .1) (a .net) (rw (lt-ltb (gate .0 .1 .0 / 2) (a .net) (omega arith), lt-ltb (gate .0 .1 .1 .0 / 2) (a .net) (omega arith)))
+returns-4 c =
+    let read = c .before .before .before .before in
+    let known = read .before .before .before in
+    let a = known .before .before .before .before .args in
+    let op = known .enum-told .given .0 .0 in
+    let x = c .before .before .is-below in
+    plain-gate (now (a .text)) (a .at) op _ _
+    (rw (read .operands .given .1) at (read .before .before .operands-at .ensures) _ (rw (known .enum-told .given .1) at (known .before .before .kind-at .ensures)) (operands-widths false op))
+    (a .net) (sym (x .ensures) ∙ not-false _ (c .before .if1 .left)) (c .is-below2 .result) (c .is-below2 .ensures)
 
 pub plain-gate-spec : {M : Type 1} → statement M
 plain-gate-spec =
     tie.close
     (tie.spec
-    look-gate-requires
-    enum-known-frame
+    kind-at-requires
     enum-told
     returns
-    enum-known-frame-2
+    operands-at-requires
+    enum-known-operands
+    enum-told-2
     returns-2
-    cast-if1
+    is-below-requires
     returns-3
-    cast-if2
-    returns-4
-    returns-5)
+    is-below-requires-2
+    returns-4)

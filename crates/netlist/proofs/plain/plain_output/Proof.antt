@@ -1,21 +1,19 @@
--- The line is known, and its literal is over a net of the list (`plain-output`).
-use Prim.Native.Nat.{_/_}
-use native.Mathlib.Omega.{arith}
-use borrow.Author.Tests.{lt-ltb}
+-- The line is an output's, and its literal is over a net of the list (`plain-output`).
+use mathlib.Core.Path.{refl}
 use denote.Ref.{now}
+use Rattle.model.specs.Frames.{outputKind, widths}
 use Rattle.netlist.proofs.PlainLaws.{plain-output}
 use borrow.Author.Needs.{needs}
 use Rattle.netlist.proofs.plain.plain_output.Statement.{statement}
 use Rattle.netlist.proofs.plain.plain_output.Tie as tie
 use Rattle.netlist.proofs.plain.plain_output.Reads as reads
 use Rattle.netlist.proofs.plain.plain_output.Lts as lts
-use Rattle.words.proofs.read.look_output.Reads as look-output-reads
+use Rattle.frame.proofs.kinds.kind_at.Reads as kind-at-reads
+use Rattle.frame.proofs.read.output_at.Reads as output-at-reads
+use Rattle.netlist.proofs.plain.is_below.Reads as is-below-reads
 
-look-output-requires : tie.Need-look-output-requires
-look-output-requires c κs = search needs
-
-enum-known-frame : tie.Need-enum-known-frame
-enum-known-frame c = search needs
+kind-at-requires : tie.Need-kind-at-requires
+kind-at-requires c κs = search needs
 
 enum-told : tie.Need-enum-told
 enum-told c = search needs
@@ -23,35 +21,39 @@ enum-told c = search needs
 returns : tie.Need-returns
 returns c = search needs
 
-enum-known-frame-2 : tie.Need-enum-known-frame-2
-enum-known-frame-2 c = search needs
+output-at-requires : tie.Need-output-at-requires
+output-at-requires c κs = search needs
+
+enum-known-output : tie.Need-enum-known-output
+enum-known-output c = search needs
+
+enum-told-2 : tie.Need-enum-told-2
+enum-told-2 c = search needs
 
 returns-2 : tie.Need-returns-2
 returns-2 c = search needs
 
-cast-if1 : tie.Need-cast-if1
-cast-if1 c = search needs
+is-below-requires : tie.Need-is-below-requires
+is-below-requires c κs = search needs
 
 returns-3 : tie.Need-returns-3
-returns-3 c = search needs
-
-returns-4 : tie.Need-returns-4
-returns-4 c =
-    let a = c .before .before .before .before .before .before .before .before .before .args in
-    let look = c .before .before .before .before .before .before .before .look-output in
-    let output = c .before .before .frame2 .given in
-    plain-output (now (a .text)) (a .at) (look .ensures .0) (c .before .before .before .before .before .frame .given .1) (output .1) (look .ensures .1) (a .nets) (rw (lt-ltb (output .0 .0 / 2) (a .nets) (omega arith)))
+unfolding widths
+returns-3 c =
+    let read = c .before .before in
+    let known = read .before .before .before in
+    let a = known .before .before .before .before .args in
+    plain-output (now (a .text)) (a .at) _ (rw (read .output .given .1) at (read .before .before .output-at .ensures) outputKind (rw (known .enum-told .given .1) at (known .before .before .kind-at .ensures)) refl) (a .nets) (c .is-below .result) (c .is-below .ensures)
 
 pub plain-output-spec : {M : Type 1} → statement M
 plain-output-spec =
     tie.close
     (tie.spec
-    look-output-requires
-    enum-known-frame
+    kind-at-requires
     enum-told
     returns
-    enum-known-frame-2
+    output-at-requires
+    enum-known-output
+    enum-told-2
     returns-2
-    cast-if1
-    returns-3
-    returns-4)
+    is-below-requires
+    returns-3)
