@@ -3,6 +3,8 @@
 use frame::Decoded;
 use frame::Frame;
 use frame::Op;
+use frame::kinds::Kind;
+use frame::kinds::kind_of;
 ghost use mathlib.Core.Path.{_≡_};
 ghost use mathlib.Core.List.{[], _∷_};
 ghost use Rattle.model.specs.Frames.{headerKind, outputKind, resolveKind, reportKind};
@@ -118,15 +120,14 @@ pub fn frame_from(kind: u8, numbers: [u64; 4]) -> Decoded
     let second = numbers[1];
     let third = numbers[2];
     let fourth = numbers[3];
-    match kind {
-        0x01 => header_from(first, second, third),
-        0x02 => gate_from(Op::And, first, second),
-        0x03 => gate_from(Op::Xor, first, second),
-        0x04 => output_from(first),
-        0x11 => resolve_from(first, second, third),
-        0x12 => extend_from(Op::And, first, second),
-        0x13 => extend_from(Op::Xor, first, second),
-        0x21 => report_from(first, second, third, fourth),
-        _ => Decoded::Fault { number: 3, line: 0 },
+    let due = kind_of(kind);
+    match due {
+        Kind::Header => header_from(first, second, third),
+        Kind::Gate(op) => gate_from(op, first, second),
+        Kind::Output => output_from(first),
+        Kind::Resolve => resolve_from(first, second, third),
+        Kind::Extend(op) => extend_from(op, first, second),
+        Kind::Report => report_from(first, second, third, fourth),
+        Kind::Unknown => Decoded::Fault { number: 3, line: 0 },
     }
 }

@@ -1,5 +1,5 @@
 -- Laws of kinds: the kind that two digits spell, the kind of a line, and a line that has none.
-use Prim.Native.Nat.{ℕ, suc, _+_, _*_, _<_, _≤_}
+use Prim.Native.Nat.{ℕ, suc, _+_, _*_, _/_, _%_, _<_, _≤_}
 use mathlib.Core.Path.{_≡_, refl, sym, ap, _∙_}
 use mathlib.Core.List.{List, [], _∷_}
 use mathlib.Core.Bool.{Bool, true, false, cond}
@@ -12,6 +12,7 @@ use Rattle.model.specs.Answers.Answer.{ok, refused}
 use Rattle.model.specs.Lines as model
 use Rattle.model.specs.Lines.{isDigit, digitOf, lineFeed, lines}
 use Rattle.model.specs.Frames.{Frame, widths, isKind, number, oneByte, decodeAs, decode}
+use Rattle.laws.specs.Digits.{byte-read}
 use Rattle.laws.specs.Answers.{ok-injective, refused-not-ok, guard-ok}
 use Rattle.digits.specs.Digits.{valueOf, values, run, numberAt}
 use Rattle.digits.proofs.DigitLaws.{value-back, run-more, run-stop, byte-number}
@@ -19,7 +20,7 @@ use Rattle.frame.specs.declared.kinds.Kind.{Kind}
 use Rattle.frame.specs.declared.kinds.Kind.the-variants.{Header, Gate, Output, Resolve, Extend, Report, Unknown}
 use Rattle.frame.specs.Frames.{first, firstIn}
 use Rattle.frame.specs.Frames.First.{found}
-use Rattle.frame.specs.Kinds.{ByKind, Spell, Named, KindAt, KindSays, Unframed}
+use Rattle.frame.specs.Kinds.{ByKind, Spell, Named, IsKind, KindAt, KindSays, Unframed}
 use Rattle.frame.proofs.DecodeLaws.{no-kind, short}
 use Rattle.frame.proofs.FieldLaws.{part-long, kind-spelt}
 use Rattle.frame.proofs.FirstLaws.{none-found, found-fault}
@@ -56,6 +57,19 @@ module _ (high low : ℕ) (hb : high < 256) (lb : low < 256) where
       let u : valueOf high ≡ p = omega (arith, h .0, l .0) in
       let v : valueOf low ≡ q = omega (arith, h .0, l .0) in
       not (e ∙ rw (← u, ← v, h .1, l .1)))
+
+-- the digits of a byte
+pub named-byte : (byte high low : ℕ) → byte < 256 → high ≡ digitOf (byte / 16) → low ≡ digitOf (byte % 16) → (k : Kind) → Named high low k → IsKind byte k
+unfolding valueOf
+named-byte byte high low h eh el k n =
+    let a = byte-read (byte / 16) (omega arith) in
+    let b = byte-read (byte % 16) (omega arith) in
+    let ih : isDigit high ≡ true = rw eh (a .isOne) in
+    let il : isDigit low ≡ true = rw el (b .isOne) in
+    let vh : valueOf high ≡ byte / 16 = rw (eh, a .isOne) (a .value) in
+    let vl : valueOf low ≡ byte % 16 = rw (el, b .isOne) (b .value) in
+    let e : 16 * valueOf high + valueOf low ≡ byte = omega arith in
+    by-kind (λ kind s. sym (s .spelt ∙ e)) (λ none. rw e at (none ih il)) k n
 
 -- ---- the kind of a line
 

@@ -47,6 +47,10 @@ pub record Spell (high low kind : ℕ) : Type 0 where
 abbrev pub Named : ℕ → ℕ → Kind → Type 0
 Named high low k = ByKind (Spell high low) (isDigit high ≡ true → isDigit low ≡ true → isKind (widths (16 * valueOf high + valueOf low)) ≡ false) k
 
+-- a byte is that of this kind, or it is outside the table
+abbrev pub IsKind : ℕ → Kind → Type 0
+IsKind byte k = ByKind (λ kind. byte ≡ kind) (isKind (widths byte) ≡ false) k
+
 -- the first two digits at a place spell this kind
 pub record KindAt (text : List ℕ) (at kind : ℕ) : Type 0 where
   pub room : at + oneByte ≤ length text

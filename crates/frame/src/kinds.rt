@@ -1,10 +1,11 @@
 // The table of kinds (document 01, 'Lines on the wire'): each kind with its byte and the length of its line. What a line is due to be is decided
 // here, by one match on the two digits of its kind byte, for a lone line as for the lines that long texts are made of.
 use crate::Op;
+use crate::fields::digit_of;
 ghost use mathlib.Core.Path.{_≡_};
 ghost use Prim.Native.Nat.{_≤_};
 ghost use lib.ListN.{length};
-ghost use Rattle.frame.specs.Kinds.{byteOf, Named, KindSays};
+ghost use Rattle.frame.specs.Kinds.{byteOf, Named, IsKind, KindSays};
 
 // The bytes of each line, its LF counted.
 pub const HEADER_BYTES: usize = 11;
@@ -31,7 +32,7 @@ pub enum Kind {
 }
 
 // The kind that two digits spell.
-pub fn kind_of(high: u8, low: u8) -> Kind
+fn spelt_kind(high: u8, low: u8) -> Kind
     ensures { λ r. ⌜ Named high low r ⌝ }
 {
     let spelt = 256 * (high as u16) + (low as u16);
@@ -46,6 +47,13 @@ pub fn kind_of(high: u8, low: u8) -> Kind
         0x3231 => Kind::Report,
         _ => Kind::Unknown,
     }
+}
+
+// The kind that a byte is.
+pub fn kind_of(byte: u8) -> Kind
+    ensures { λ r. ⌜ IsKind byte r ⌝ }
+{
+    spelt_kind(digit_of(byte / 16), digit_of(byte % 16))
 }
 
 // The byte of a kind, and 0 for one that is outside the table.
@@ -77,5 +85,5 @@ pub fn kind_at(text: &[u8], at: usize) -> Kind
     if text.len() - at < 2 {
         return Kind::Unknown;
     }
-    kind_of(text[at], text[at + 1])
+    spelt_kind(text[at], text[at + 1])
 }

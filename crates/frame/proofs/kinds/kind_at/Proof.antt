@@ -7,7 +7,7 @@ use Rattle.frame.proofs.kinds.kind_at.Statement.{statement}
 use Rattle.frame.proofs.kinds.kind_at.Tie as tie
 use Rattle.frame.proofs.kinds.kind_at.Reads as reads
 use Rattle.frame.proofs.kinds.kind_at.Lts as lts
-use Rattle.frame.proofs.kinds.kind_of.Reads as kind-of-reads
+use Rattle.frame.proofs.kinds.spelt_kind.Reads as spelt-kind-reads
 
 sub-if1 : tie.Need-sub-if1
 sub-if1 c = search needs
@@ -15,20 +15,20 @@ sub-if1 c = search needs
 returns : tie.Need-returns
 returns c = let a = c .before .before .args in unframed-short (now (a .text)) (a .at) (omega arith)
 
-shared-slice-read-kind-of : tie.Need-shared-slice-read-kind-of
-shared-slice-read-kind-of c = search needs
+shared-slice-read-spelt-kind : tie.Need-shared-slice-read-spelt-kind
+shared-slice-read-spelt-kind c = search needs
 
-add-kind-of : tie.Need-add-kind-of
-add-kind-of c = search needs
+add-spelt-kind : tie.Need-add-spelt-kind
+add-spelt-kind c = search needs
 
-shared-slice-read-kind-of-2 : tie.Need-shared-slice-read-kind-of-2
-shared-slice-read-kind-of-2 c = search needs
+shared-slice-read-spelt-kind-2 : tie.Need-shared-slice-read-spelt-kind-2
+shared-slice-read-spelt-kind-2 c = search needs
 
-kind-of-requires : tie.Need-kind-of-requires
-kind-of-requires c κs = search needs
+spelt-kind-requires : tie.Need-spelt-kind-requires
+spelt-kind-requires c κs = search needs
 
 returns-2 : tie.Need-returns-2
-returns-2 c = let a = c .before .before .before .before .before .args in kind-says (now (a .text)) (a .at) (omega arith) (c .kind-of .result) (c .kind-of .ensures)
+returns-2 c = let a = c .before .before .before .before .before .args in kind-says (now (a .text)) (a .at) (omega arith) (c .spelt-kind .result) (c .spelt-kind .ensures)
 
 pub kind-at-spec : {M : Type 1} → statement M
 kind-at-spec =
@@ -36,8 +36,8 @@ kind-at-spec =
     (tie.spec
     sub-if1
     returns
-    shared-slice-read-kind-of
-    add-kind-of
-    shared-slice-read-kind-of-2
-    kind-of-requires
+    shared-slice-read-spelt-kind
+    add-spelt-kind
+    shared-slice-read-spelt-kind-2
+    spelt-kind-requires
     returns-2)

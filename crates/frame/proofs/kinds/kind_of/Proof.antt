@@ -1,98 +1,28 @@
--- Each arm has its two digits (`named`); two digits that no arm has spell no number of the table (`not-spelt`).
-use mathlib.Core.Path.{refl}
+-- The byte is what its two digits spell (`named-byte`).
 use native.Mathlib.Omega.{arith}
-use Rattle.model.specs.Frames.{widths}
-use Rattle.digits.specs.Digits.{valueOf}
-use Rattle.frame.proofs.KindLaws.{named, not-spelt}
+use Rattle.frame.proofs.KindLaws.{named-byte}
 use borrow.Author.Needs.{needs}
 use Rattle.frame.proofs.kinds.kind_of.Statement.{statement}
 use Rattle.frame.proofs.kinds.kind_of.Tie as tie
 use Rattle.frame.proofs.kinds.kind_of.Reads as reads
 use Rattle.frame.proofs.kinds.kind_of.Lts as lts
+use Rattle.frame.proofs.fields.digit_of.Reads as digit-of-reads
+use Rattle.frame.proofs.kinds.spelt_kind.Reads as spelt-kind-reads
 
-mul-spelt : tie.Need-mul-spelt
-mul-spelt c = search needs
+digit-of-requires : tie.Need-digit-of-requires
+digit-of-requires c κs = search needs
 
-add-spelt : tie.Need-add-spelt
-add-spelt c = search needs
+digit-of-requires-2 : tie.Need-digit-of-requires-2
+digit-of-requires-2 c κs = search needs
+
+spelt-kind-requires : tie.Need-spelt-kind-requires
+spelt-kind-requires c κs = search needs
 
 returns : tie.Need-returns
-unfolding valueOf
-returns c =
-    let x = c .before .args in
-    named (x .high) (x .low) (omega arith) (omega arith) 48 49 (omega arith) (omega arith) refl (c .match .keys1) refl refl refl
-
-returns-2 : tie.Need-returns-2
-unfolding valueOf
-returns-2 c =
-    let x = c .before .args in
-    named (x .high) (x .low) (omega arith) (omega arith) 48 50 (omega arith) (omega arith) refl (c .match .keys2) refl refl refl
-
-returns-3 : tie.Need-returns-3
-unfolding valueOf
-returns-3 c =
-    let x = c .before .args in
-    named (x .high) (x .low) (omega arith) (omega arith) 48 51 (omega arith) (omega arith) refl (c .match .keys3) refl refl refl
-
-returns-4 : tie.Need-returns-4
-unfolding valueOf
-returns-4 c =
-    let x = c .before .args in
-    named (x .high) (x .low) (omega arith) (omega arith) 48 52 (omega arith) (omega arith) refl (c .match .keys4) refl refl refl
-
-returns-5 : tie.Need-returns-5
-unfolding valueOf
-returns-5 c =
-    let x = c .before .args in
-    named (x .high) (x .low) (omega arith) (omega arith) 49 49 (omega arith) (omega arith) refl (c .match .keys5) refl refl refl
-
-returns-6 : tie.Need-returns-6
-unfolding valueOf
-returns-6 c =
-    let x = c .before .args in
-    named (x .high) (x .low) (omega arith) (omega arith) 49 50 (omega arith) (omega arith) refl (c .match .keys6) refl refl refl
-
-returns-7 : tie.Need-returns-7
-unfolding valueOf
-returns-7 c =
-    let x = c .before .args in
-    named (x .high) (x .low) (omega arith) (omega arith) 49 51 (omega arith) (omega arith) refl (c .match .keys7) refl refl refl
-
-returns-8 : tie.Need-returns-8
-unfolding valueOf
-returns-8 c =
-    let x = c .before .args in
-    named (x .high) (x .low) (omega arith) (omega arith) 50 49 (omega arith) (omega arith) refl (c .match .keys8) refl refl refl
-
-returns-9 : tie.Need-returns-9
-unfolding widths
-returns-9 c =
-    let x = c .before .args in
-    let not = c .match .rest in
-    let other = not-spelt (x .high) (x .low) (omega arith) (omega arith) in
-    λ h l. simp (
-      other 0 1 (omega arith) (omega arith) refl (not .0 .0 .0 .0 .0 .0 .0 .1) h l,
-      other 0 2 (omega arith) (omega arith) refl (not .0 .0 .0 .0 .0 .0 .1) h l,
-      other 0 3 (omega arith) (omega arith) refl (not .0 .0 .0 .0 .0 .1) h l,
-      other 0 4 (omega arith) (omega arith) refl (not .0 .0 .0 .0 .1) h l,
-      other 1 1 (omega arith) (omega arith) refl (not .0 .0 .0 .1) h l,
-      other 1 2 (omega arith) (omega arith) refl (not .0 .0 .1) h l,
-      other 1 3 (omega arith) (omega arith) refl (not .0 .1) h l,
-      other 2 1 (omega arith) (omega arith) refl (not .1) h l,
-    )
+returns c = 
+    let high = c .before .before .digit-of in
+    named-byte (c .before .before .before .args .byte) (high .result) (c .before .digit-of2 .result) (omega arith) (high .ensures) (c .before .digit-of2 .ensures) (c .spelt-kind .result) (c .spelt-kind .ensures)
 
 pub kind-of-spec : {M : Type 1} → statement M
 kind-of-spec =
-    tie.close
-    (tie.spec
-    mul-spelt
-    add-spelt
-    returns
-    returns-2
-    returns-3
-    returns-4
-    returns-5
-    returns-6
-    returns-7
-    returns-8
-    returns-9)
+    tie.close (tie.spec digit-of-requires digit-of-requires-2 spelt-kind-requires returns)
