@@ -6,22 +6,15 @@ use mathlib.Core.Bool.{Bool, true, false, cond}
 use native.Mathlib.Omega.{arith}
 use lib.ListN.{length, drop, getD}
 use lib.Seq.{getD-drop}
-use lib.Bits.{bitAnd}
 use lib.Dec.{ltb}
 use borrow.Author.Tests.{ltb-true, ltb-false}
-use Rattle.model.specs.Lines.{isDigit, digitOf}
+use Rattle.model.specs.Lines.{isDigit}
 use Rattle.model.specs.Frames.{oneByte, twoBytes, threeBytes}
-use Rattle.laws.specs.Digits.{byte-read}
 use Rattle.digits.specs.Digits.{valueOf, run, Digit, Spelt, byteLimit, wordLimit, tripleLimit}
-use Rattle.digits.specs.Packed.{packed}
+use Rattle.digits.specs.Packed.{packed, noValues, Values}
 use Rattle.digits.proofs.DigitLaws.{value-back, run-more, run-stop, byte-number, word-number, triple-number}
-use Rattle.digits.proofs.PackLaws.{parts, same-parts, small-parts, digit-small, no-high}
 
 -- ---- one digit
-
-digit-read : (b d : ℕ) → d < 16 → b ≡ digitOf d → (isDigit b ≡ true) × (valueOf b ≡ d)
-unfolding valueOf
-digit-read b d h e = let r = byte-read d h in rw e (r .isOne, rw (r .isOne) (r .value))
 
 run-digit : (s : List ℕ) (i : ℕ) → i < run s → isDigit (getD s i 0) ≡ true
 run-digit [] i h = absurd (omega arith)
@@ -69,85 +62,40 @@ module _ (l : List ℕ) (k x y : ℕ) (n : k + 2 ≤ length l) (p : Digit (getD 
 
 -- ---- four digits
 
--- digits of these values at a place
-module _ (l : List ℕ) (k a b c d : ℕ) (n : k + 4 ≤ length l) (ha : a < 16) (hb : b < 16) (hc : c < 16) (hd : d < 16) where
-  four : getD l k 0 ≡ digitOf a → getD l (k + 1) 0 ≡ digitOf b → getD l (k + 2) 0 ≡ digitOf c → getD l (k + 3) 0 ≡ digitOf d
-      → Spelt l k twoBytes wordLimit (4096 * a + 256 * b + 16 * c + d)
-  four ea eb ec ed =
-      let ra = digit-read (getD l k 0) a ha ea in
-      let rb = digit-read (getD l (k + 1) 0) b hb eb in
-      let rc = digit-read (getD l (k + 2) 0) c hc ec in
-      let rd = digit-read (getD l (k + 3) 0) d hd ed in
+module _ (l : List ℕ) (k v : ℕ) (n : k + 4 ≤ length l) (p : Values (getD l k 0) (getD l (k + 1) 0) (getD l (k + 2) 0) (getD l (k + 3) 0) v) where
+  pub four-digits : v < noValues → (r : ℕ) → ((a b c d : ℕ) → a < 16 → b < 16 → c < 16 → d < 16 → v ≡ packed a b c d → r ≡ 4096 * a + 256 * b + 16 * c + d)
+      → Spelt l k twoBytes wordLimit r
+  four-digits h r word =
+      let i = p .are h in
+      let a = value-back _ (i .0) in
+      let b = value-back _ (i .1) in
+      let c = value-back _ (i .2) in
+      let d = value-back _ (i .3) in
+      let w = word _ _ _ _ (a .0) (b .0) (c .0) (d .0) (p .values h) in
+      let f₂ : k + 1 + 1 ≡ k + 2 = omega arith in
+      let f₃ : k + 2 + 1 ≡ k + 3 = omega arith in
+      let f₄ : k + 3 + 1 ≡ k + 4 = omega arith in
       record {
         goes = λ _ next e.
-            let f₂ : k + 1 + 1 ≡ k + 2 = omega arith in
-            let f₃ : k + 2 + 1 ≡ k + 3 = omega arith in
-            let f₄ : k + 3 + 1 ≡ k + 4 = omega arith in
-            let g₁ = run-more l k (omega arith) (ra .0) in
-            let g₂ = rw f₂ at (run-more l (k + 1) (omega arith) (rb .0)) in
-            let g₃ = rw f₃ at (run-more l (k + 2) (omega arith) (rc .0)) in
-            let g₄ = rw f₄ at (run-more l (k + 3) (omega arith) (rd .0)) in
+            let g₁ = run-more l k (omega arith) (i .0) in
+            let g₂ = rw f₂ at (run-more l (k + 1) (omega arith) (i .1)) in
+            let g₃ = rw f₃ at (run-more l (k + 2) (omega arith) (i .2)) in
+            let g₄ = rw f₄ at (run-more l (k + 3) (omega arith) (i .3)) in
             rw e (omega arith);
-        number = λ _.
-            let f : k + 2 + 1 ≡ k + 3 = omega arith in
-            let x = byte-number l k (omega arith) in
-            let y = rw f at (byte-number l (k + 2) (omega arith)) in
-            let z = word-number l k n in
-            omega (arith, ra .1, rb .1, rc .1, rd .1);
-        stops = λ h. absurd (omega arith);
+        number = λ _. omega (arith, word-number l k n, byte-number l k (omega arith), rw f₃ at (byte-number l (k + 2) (omega arith)));
+        stops = λ j. absurd (omega arith);
       }
 
--- values of four bits that spell the bytes at a place
-pub four-digits : (l : List ℕ) (k v spelling r : ℕ) → k + 4 ≤ length l → v ≤ 0x18181818 → bitAnd v 0xF0F0F0F0 ≡ 0
-    → getD l k 0 < 256 → getD l (k + 1) 0 < 256 → getD l (k + 2) 0 < 256 → getD l (k + 3) 0 < 256
-    → spelling ≡ packed (getD l k 0) (getD l (k + 1) 0) (getD l (k + 2) 0) (getD l (k + 3) 0)
-    → ((a b c d : ℕ) → a < 16 → b < 16 → c < 16 → d < 16 → v ≡ packed a b c d → spelling ≡ packed (digitOf a) (digitOf b) (digitOf c) (digitOf d))
-    → ((a b c d : ℕ) → a < 16 → b < 16 → c < 16 → d < 16 → v ≡ packed a b c d → r ≡ 4096 * a + 256 * b + 16 * c + d) → Spelt l k twoBytes wordLimit r
-four-digits l k v spelling r n h m b₀ b₁ b₂ b₃ is spells word =
-    let s = small-parts v (omega arith) m in
-    let a : ℕ = v % 256 in
-    let b : ℕ = v / 256 % 256 in
-    let c : ℕ = v / 65536 % 256 in
-    let d : ℕ = v / 16777216 in
-    let p = parts v (omega arith) in
-    let e = same-parts (getD l k 0) (getD l (k + 1) 0) (getD l (k + 2) 0) (getD l (k + 3) 0) (digitOf a) (digitOf b) (digitOf c) (digitOf d) b₀ b₁ b₂ b₃ (digit-small a (s .0)) (digit-small b (s .1)) (digit-small c (s .2)) (digit-small d (s .3)) (sym is ∙ spells a b c d (s .0) (s .1) (s .2) (s .3) p) in
-    rw (word a b c d (s .0) (s .1) (s .2) (s .3) p) (four l k a b c d n (s .0) (s .1) (s .2) (s .3) (e .0) (e .1) (e .2) (e .3))
-
--- the four bytes at a place are not all digits
-no-word : (l : List ℕ) (k : ℕ)
-    → (isDigit (getD l k 0) ≡ true → isDigit (getD l (k + 1) 0) ≡ true → isDigit (getD l (k + 2) 0) ≡ true → isDigit (getD l (k + 3) 0) ≡ true → ⊥)
-    → Spelt l k twoBytes wordLimit wordLimit
-no-word l k not =
-    record { goes = λ h _ _. absurd (omega arith); number = λ h. absurd (omega arith); stops = λ _. go (ltb (run (drop k l)) 4) refl }
-  where
-    go : (t : Bool) → ltb (run (drop k l)) 4 ≡ t → run (drop k l) < 4
-    go true t = ltb-true (run (drop k l)) 4 t
-    go false t =
-        let h = ltb-false (run (drop k l)) 4 t in
-        let z : k + 0 ≡ k = omega arith in
-        absurd (not (rw z at (in-run l k 0 (omega arith))) (in-run l k 1 (omega arith)) (in-run l k 2 (omega arith)) (in-run l k 3 (omega arith)))
-
--- values that those of digits would be
-module _ (l : List ℕ) (k v bytes : ℕ) (is : bytes ≡ packed (getD l k 0) (getD l (k + 1) 0) (getD l (k + 2) 0) (getD l (k + 3) 0))
-    (values : (a b c d : ℕ) → isDigit a ≡ true → isDigit b ≡ true → isDigit c ≡ true → isDigit d ≡ true → bytes ≡ packed a b c d → v ≡ packed (valueOf a) (valueOf b) (valueOf c) (valueOf d)) where
-  pub high-bits : (bitAnd v 0xF0F0F0F0 ≡ 0 → ⊥) → Spelt l k twoBytes wordLimit wordLimit
-  high-bits not =
-      no-word l k (λ ia ib ic id.
-      let e = values _ _ _ _ ia ib ic id is in
-      not (ap (λ (n : ℕ). bitAnd n 0xF0F0F0F0) e ∙ no-high _ _ _ _ (value-back _ ia .0) (value-back _ ib .0) (value-back _ ic .0) (value-back _ id .0)))
-
-  pub misspelt : (spelling : ℕ)
-      → ((a b c d : ℕ) → a < 16 → b < 16 → c < 16 → d < 16 → v ≡ packed a b c d → spelling ≡ packed (digitOf a) (digitOf b) (digitOf c) (digitOf d)) → (spelling ≡ bytes → ⊥)
-      → Spelt l k twoBytes wordLimit wordLimit
-  misspelt spelling spells not =
-      no-word l k (λ ia ib ic id.
-      let a = value-back (getD l k 0) ia in
-      let b = value-back (getD l (k + 1) 0) ib in
-      let c = value-back (getD l (k + 2) 0) ic in
-      let d = value-back (getD l (k + 3) 0) id in
-      let e = spells _ _ _ _ (a .0) (b .0) (c .0) (d .0) (values _ _ _ _ ia ib ic id is) in
-      let q = rw (a .1, b .1, c .1, d .1) at e in
-      not (q ∙ sym is))
+  pub no-word : noValues ≤ v → Spelt l k twoBytes wordLimit wordLimit
+  no-word h =
+      record { goes = λ j _ _. absurd (omega arith); number = λ j. absurd (omega arith); stops = λ _. go (ltb (run (drop k l)) 4) refl }
+    where
+      go : (t : Bool) → ltb (run (drop k l)) 4 ≡ t → run (drop k l) < 4
+      go true t = ltb-true (run (drop k l)) 4 t
+      go false t =
+          let m = ltb-false (run (drop k l)) 4 t in
+          let z : k + 0 ≡ k = omega arith in
+          absurd (p .none h (rw z at (in-run l k 0 (omega arith)), in-run l k 1 (omega arith), in-run l k 2 (omega arith), in-run l k 3 (omega arith)))
 
 -- ---- six digits
 

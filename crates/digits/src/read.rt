@@ -1,8 +1,8 @@
 // The number that the digits at a place spell. Where one of them is no digit, the answer is above every number of that width, so that a
 // reader tests once and no digit is looked at twice.
 use crate::is_digit;
+use crate::packed::NO_VALUES;
 use crate::packed::pack;
-use crate::packed::spelling;
 use crate::packed::values_of;
 use crate::packed::word_of;
 ghost use Prim.Native.Nat.{_+_, _≤_};
@@ -37,7 +37,7 @@ pub fn byte_at(text: &[u8], at: usize) -> u32
     16 * value(text[at]) + value(text[at + 1])
 }
 
-// Four digits, at once: all four are digits if they are what their values spell.
+// Four digits, at once.
 pub fn word_at(text: &[u8], at: usize) -> u32
     requires { ⌜ at + twoBytes ≤ length (now text) ⌝ }
     ensures { λ r. ⌜ Spelt (now (text .entry)) at twoBytes wordLimit r ⌝ }
@@ -48,12 +48,7 @@ pub fn word_at(text: &[u8], at: usize) -> u32
     let d = text[at + 3];
     let bytes = pack(a, b, c, d);
     let values = values_of(bytes);
-    let above = values & 0xF0F0F0F0;
-    if above != 0 {
-        return NO_WORD;
-    }
-    let spelt = spelling(values);
-    if spelt != bytes {
+    if NO_VALUES <= values {
         return NO_WORD;
     }
     word_of(values)

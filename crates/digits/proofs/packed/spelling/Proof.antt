@@ -1,5 +1,5 @@
 -- `spelt`; a mask bounds what it leaves.
-use Prim.Native.Nat.{_+_, _/_}
+use Prim.Native.Nat.{_+_}
 use native.Mathlib.Omega.{arith}
 use lib.Bits.{and-le-r}
 use Rattle.digits.proofs.PackLaws.{spelt}
@@ -16,10 +16,10 @@ add-result-2 : tie.Need-add-result-2
 add-result-2 c = search needs
 
 mul-result : tie.Need-mul-result
-mul-result c = record { fits = omega (arith, and-le-r ((c .args .values + 0x06060606) / 16) 0x01010101) }
+mul-result c = record { fits = omega (arith, and-le-r (c .args .values + 0x06060606) 0x10101010) }
 
 add-result-3 : tie.Need-add-result-3
-add-result-3 c = record { fits = omega (arith, and-le-r ((c .args .values + 0x06060606) / 16) 0x01010101) }
+add-result-3 c = record { fits = omega (arith, and-le-r (c .args .values + 0x06060606) 0x10101010) }
 
 returns : tie.Need-returns
 returns c = λ p q r s hp hq hr hs h. rw h (spelt p q r s hp hq hr hs)

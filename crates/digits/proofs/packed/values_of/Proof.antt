@@ -1,22 +1,52 @@
--- A mask bounds what it leaves; of digits it leaves their values (`values-packed`).
-use Prim.Native.Nat.{_/_}
+-- What is tested of four bytes at once is tested of each (`four-values`, `no-values`).
 use native.Mathlib.Omega.{arith}
-use lib.Bits.{and-le-r}
-use Rattle.digits.proofs.PackLaws.{values-packed}
+use Rattle.digits.proofs.PackLaws.{no-wrap, no-borrow, no-values, four-values}
 use Rattle.digits.proofs.packed.values_of.Statement.{statement}
 use Rattle.digits.proofs.packed.values_of.Tie as tie
 use Rattle.digits.proofs.packed.values_of.Reads as reads
 use Rattle.digits.proofs.packed.values_of.Lts as lts
 
-mul-result : tie.Need-mul-result
-mul-result c = record { fits = omega (arith, and-le-r (c .args .bytes) 0x0F0F0F0F, and-le-r (c .args .bytes / 64) 0x01010101) }
+mul-figures : tie.Need-mul-figures
+mul-figures c = record { fits = omega (arith, no-wrap (c .args .bytes) (omega arith)) }
 
-add-result : tie.Need-add-result
-add-result c = record { fits = omega (arith, and-le-r (c .args .bytes) 0x0F0F0F0F, and-le-r (c .args .bytes / 64) 0x01010101) }
+sub-figures : tie.Need-sub-figures
+sub-figures c = omega (arith, no-wrap (c .args .bytes) (omega arith))
+
+add-above : tie.Need-add-above
+add-above c = record { fits = omega (arith, no-wrap (c .args .bytes) (omega arith)) }
+
+mul-above : tie.Need-mul-above
+mul-above c = record { fits = omega (arith, no-wrap (c .args .bytes) (omega arith)) }
+
+add-above-2 : tie.Need-add-above-2
+add-above-2 c = record { fits = omega (arith, no-wrap (c .args .bytes) (omega arith)) }
 
 returns : tie.Need-returns
-returns c =
-    (omega (arith, and-le-r (c .args .bytes) 0x0F0F0F0F, and-le-r (c .args .bytes / 64) 0x01010101), λ p q r s ip iq ir is h. rw h (values-packed p q r s ip iq ir is))
+returns c = λ p q r s hp hq hr hs e. no-values p q r s hp hq hr hs (rw e at (c .if1 .taken))
+
+mul-result : tie.Need-mul-result
+mul-result c = record { fits = omega (arith, no-wrap (c .before .args .bytes) (omega arith)) }
+
+add-result : tie.Need-add-result
+add-result c = record { fits = omega (arith, no-wrap (c .before .args .bytes) (omega arith)) }
+
+sub-result : tie.Need-sub-result
+sub-result c = omega (arith, no-borrow (c .before .args .bytes) (c .if1 .left))
+
+returns-2 : tie.Need-returns-2
+returns-2 c = λ p q r s hp hq hr hs e. rw e (four-values p q r s hp hq hr hs (rw e at (c .if1 .left)))
 
 pub values-of-spec : {M : Type 1} → statement M
-values-of-spec = tie.close (tie.spec mul-result add-result returns)
+values-of-spec =
+    tie.close
+    (tie.spec
+    mul-figures
+    sub-figures
+    add-above
+    mul-above
+    add-above-2
+    returns
+    mul-result
+    add-result
+    sub-result
+    returns-2)

@@ -9,17 +9,17 @@ use Rattle.digits.proofs.packed.word_of.Lts as lts
 mul-pairs : tie.Need-mul-pairs
 mul-pairs c = search needs
 
-add-pairs : tie.Need-add-pairs
-add-pairs c = search needs
-
 mul-result : tie.Need-mul-result
 mul-result c = search needs
 
 add-result : tie.Need-add-result
 add-result c = search needs
 
+cast-result : tie.Need-cast-result
+cast-result c = search needs
+
 returns : tie.Need-returns
 returns c = λ p q r s hp hq hr hs h. rw h (word-parts p q r s hp hq hr hs)
 
 pub word-of-spec : {M : Type 1} → statement M
-word-of-spec = tie.close (tie.spec mul-pairs add-pairs mul-result add-result returns)
+word-of-spec = tie.close (tie.spec mul-pairs mul-result add-result cast-result returns)

@@ -1,15 +1,13 @@
--- The values have four bits each and spell the bytes (`four-digits`); values of digits would have, and would spell them (`high-bits`, `misspelt`).
-use mathlib.Core.Path.{_∙_}
+-- The four bytes are digits with these values (`four-digits`), or not all digits (`no-word`).
 use denote.Ref.{now}
-use Rattle.digits.proofs.PackLaws.{small-values}
-use Rattle.digits.proofs.ReadLaws.{four-digits, high-bits, misspelt}
+use Rattle.digits.proofs.PackLaws.{values-small}
+use Rattle.digits.proofs.ReadLaws.{four-digits, no-word}
 use borrow.Author.Needs.{needs}
 use Rattle.digits.proofs.read.word_at.Statement.{statement}
 use Rattle.digits.proofs.read.word_at.Tie as tie
 use Rattle.digits.proofs.read.word_at.Reads as reads
 use Rattle.digits.proofs.read.word_at.Lts as lts
 use Rattle.digits.proofs.packed.pack.Reads as pack-reads
-use Rattle.digits.proofs.packed.spelling.Reads as spelling-reads
 use Rattle.digits.proofs.packed.values_of.Reads as values-of-reads
 use Rattle.digits.proofs.packed.word_of.Reads as word-of-reads
 
@@ -42,27 +40,21 @@ values-of-requires c κs = search needs
 
 returns : tie.Need-returns
 returns c =
-    let v = c .before .values-of in
-    high-bits _ _ (v .result) _ (c .before .before .pack .ensures .0) (v .ensures .1) (c .if1 .taken)
+    let b = c .before .before .before .before .before .before .before .before in
+    let p = c .before .before .pack .ensures in
+    no-word (now (b .args .text)) (b .args .at) (c .before .values-of .result) (b .pre) (c .before .values-of .ensures _ _ _ _ (p .1) (p .2) (p .3) (p .4) (p .0)) (c .if1 .taken)
 
-spelling-requires : tie.Need-spelling-requires
-spelling-requires c κs = small-values (c .before .values-of .result) (c .before .values-of .ensures .0) (c .if1 .left)
+word-of-requires : tie.Need-word-of-requires
+word-of-requires c κs =
+    let p = c .before .before .pack .ensures in
+    values-small (c .before .values-of .ensures _ _ _ _ (p .1) (p .2) (p .3) (p .4) (p .0)) (c .if1 .left)
 
 returns-2 : tie.Need-returns-2
 returns-2 c =
-    let v = c .before .before .before .values-of in
-    let s = c .before .spelling in
-    misspelt _ _ (v .result) _ (c .before .before .before .before .pack .ensures .0) (v .ensures .1) (s .result) (s .ensures) (c .if2 .taken)
-
-word-of-requires : tie.Need-word-of-requires
-word-of-requires c κs = small-values (c .before .before .before .values-of .result) (c .before .before .before .values-of .ensures .0) (c .before .before .if1 .left)
-
-returns-3 : tie.Need-returns-3
-returns-3 c =
-    let b = c .before .before .before .before .before .before .before .before .before .before .before in
-    let p = c .before .before .before .before .before .pack in
-    let v = c .before .before .before .before .values-of in
-    four-digits (now (b .args .text)) (b .args .at) (v .result) _ _ (b .pre) (v .ensures .0) (c .before .before .before .if1 .left) (p .ensures .1) (p .ensures .2) (p .ensures .3) (p .ensures .4) (c .before .if2 .left ∙ p .ensures .0) (c .before .before .spelling .ensures) (c .word-of .ensures)
+    let b = c .before .before .before .before .before .before .before .before .before in
+    let p = c .before .before .before .pack .ensures in
+    let v = c .before .before .values-of in
+    four-digits (now (b .args .text)) (b .args .at) (v .result) (b .pre) (v .ensures _ _ _ _ (p .1) (p .2) (p .3) (p .4) (p .0)) (c .before .if1 .left) _ (c .word-of .ensures)
 
 pub word-at-spec : {M : Type 1} → statement M
 word-at-spec =
@@ -78,7 +70,5 @@ word-at-spec =
     pack-requires
     values-of-requires
     returns
-    spelling-requires
-    returns-2
     word-of-requires
-    returns-3)
+    returns-2)
