@@ -1,33 +1,47 @@
 -- Laws of digits: which bytes they are, what they are worth, how many stand at a place, and the numbers that they spell.
-use Prim.Native.Nat.{ℕ, zero, suc, _+_, _-_, _*_, _<_, _≤_}
-use mathlib.Core.Path.{_≡_, refl, sym}
+use Prim.Native.Nat.{ℕ, zero, suc, _+_, _-_, _*_, _/_, _%_, _<_, _≤_}
+use mathlib.Core.Path.{_≡_, refl}
 use mathlib.Core.List.{List, [], _∷_}
-use mathlib.Core.Bool.{Bool, true, false, _&&_, _||_, true≢false}
+use mathlib.Core.Bool.{Bool, true, false, _&&_}
 use native.Mathlib.Numerals.{add-one, one-add}
 use native.Mathlib.Omega.{arith}
-use lib.Dec.{leb, eqb}
+use lib.Dec.{eqb}
 use lib.ListN.{length, drop, getD, drop-of-length-le}
 use lib.Seq.{drop-cons}
-use borrow.Author.Tests.{le-leb, lt-leb, leb-true, ne-eqb}
+use borrow.Author.Tests.{eqb-true, ne-eqb, le-leb, lt-leb}
 use Rattle.model.specs.Lines.{isDigit, digitOf}
 use Rattle.model.specs.Frames.{number, oneByte, twoBytes, threeBytes}
+use Rattle.laws.specs.Bools.{both, below-or-at}
 use Rattle.laws.specs.Digits.{digit-byte}
 use Rattle.digits.specs.Digits.{valueOf, values, run, numberAt}
 
+-- ---- a rule of each number below n, by one test that is computed
+
+abbrev pub every : (ℕ → Bool) → ℕ → Bool
+every f zero = true
+every f (suc n) = f n && every f n
+
+pub each : (f : ℕ → Bool) (n : ℕ) → every f n ≡ true → (k : ℕ) → k < n → f k ≡ true
+each f zero e k h = absurd (omega arith)
+each f (suc n) e k h = let b = both (f n) (every f n) e in below-or-at k n h (each f n (b .1) k) (λ i. rw i (b .0))
+
+pub same : (f g : ℕ → ℕ) (n : ℕ) → every (λ k. eqb (f k) (g k)) n ≡ true → (k : ℕ) → k < n → f k ≡ g k
+same f g n e k h = eqb-true (f k) (g k) (each (λ k. eqb (f k) (g k)) n e k h)
+
 -- ---- one digit
+
+-- a digit has a value below 16, and is the byte of that value
+pub value-back : (b : ℕ) → isDigit b ≡ true → (valueOf b < 16) × (digitOf (valueOf b) ≡ b)
+unfolding valueOf
+value-back b e = rw e (digit-byte b e)
+
+-- a letter is seven bytes behind where a tenth digit would stand
+pub digit-sum : (a : ℕ) → a < 16 → digitOf a ≡ a + 48 + 7 * ((a + 6) / 16 % 2)
+digit-sum a h = same (λ a. digitOf a) (λ a. a + 48 + 7 * ((a + 6) / 16 % 2)) 16 refl a h
 
 -- from '0' up, and below 'G'
 pub digit-range : (b : ℕ) → isDigit b ≡ true → (48 ≤ b) × (b ≤ 70)
-digit-range b = go (leb 48 b) (leb b 57) (leb 65 b) (leb b 70) refl refl refl refl
-  where
-    go : (s t u v : Bool) → leb 48 b ≡ s → leb b 57 ≡ t → leb 65 b ≡ u → leb b 70 ≡ v → (s && t) || (u && v) ≡ true → (48 ≤ b) × (b ≤ 70)
-    go true true u v s t _ _ e = (leb-true 48 b s, omega (arith, leb-true b 57 t))
-    go true false true true s t u v e = (leb-true 48 b s, leb-true b 70 v)
-    go true false true false s t u v e = absurd (true≢false (sym e))
-    go true false false v s t _ _ e = absurd (true≢false (sym e))
-    go false t true true s _ u v e = (omega (arith, leb-true 65 b u), leb-true b 70 v)
-    go false t true false s _ u v e = absurd (true≢false (sym e))
-    go false t false v s _ _ _ e = absurd (true≢false (sym e))
+digit-range b e = let v = value-back b e in let s = digit-sum (valueOf b) (v .0) in (omega arith, omega arith)
 
 pub digit-not-lf : (b : ℕ) → isDigit b ≡ true → eqb b 10 ≡ false
 digit-not-lf b e = ne-eqb b 10 (λ h. omega (arith, digit-range b e))
@@ -39,11 +53,6 @@ value-decimal b e h = rw (e, le-leb b 57 (omega arith))
 pub value-letter : (b : ℕ) → isDigit b ≡ true → 58 ≤ b → valueOf b ≡ b - 55
 unfolding valueOf
 value-letter b e h = rw (e, lt-leb b 57 (omega arith))
-
--- a digit has a value below 16, and is the byte of that value
-pub value-back : (b : ℕ) → isDigit b ≡ true → (valueOf b < 16) × (digitOf (valueOf b) ≡ b)
-unfolding valueOf
-value-back b e = rw e (digit-byte b e)
 
 -- ---- a run of digits
 

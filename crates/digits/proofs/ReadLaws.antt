@@ -1,11 +1,10 @@
 -- Laws of reading numbers: two, four and six digits at a place, each a number with the run of digits going on behind it, or the run stops before.
-use Prim.Native.Nat.{ℕ, zero, suc, _+_, _*_, _/_, _%_, _<_, _≤_}
-use mathlib.Core.Path.{_≡_, refl, sym, ap, _∙_}
-use mathlib.Core.List.{List, [], _∷_}
-use mathlib.Core.Bool.{Bool, true, false, cond}
+use Prim.Native.Nat.{ℕ, _+_, _*_, _<_, _≤_}
+use mathlib.Core.Path.{_≡_, refl}
+use mathlib.Core.List.{List}
+use mathlib.Core.Bool.{Bool, true, false}
 use native.Mathlib.Omega.{arith}
 use lib.ListN.{length, drop, getD}
-use lib.Seq.{getD-drop}
 use lib.Dec.{ltb}
 use borrow.Author.Tests.{ltb-true, ltb-false}
 use Rattle.model.specs.Lines.{isDigit}
@@ -13,25 +12,6 @@ use Rattle.model.specs.Frames.{oneByte, twoBytes, threeBytes}
 use Rattle.digits.specs.Digits.{valueOf, run, Digit, Spelt, byteLimit, wordLimit, tripleLimit}
 use Rattle.digits.specs.Packed.{packed, noValues, Values}
 use Rattle.digits.proofs.DigitLaws.{value-back, run-more, run-stop, byte-number, word-number, triple-number}
-
--- ---- one digit
-
-run-digit : (s : List ℕ) (i : ℕ) → i < run s → isDigit (getD s i 0) ≡ true
-run-digit [] i h = absurd (omega arith)
-run-digit (b ∷ s) zero h = go (isDigit b) refl h
-  where
-    go : (t : Bool) → isDigit b ≡ t → 0 < cond t (suc (run s)) 0 → isDigit b ≡ true
-    go true e h = e
-    go false e h = absurd (omega arith)
-run-digit (b ∷ s) (suc i) h = run-digit s i (go (isDigit b) h)
-  where
-    go : (t : Bool) → suc i < cond t (suc (run s)) 0 → i < run s
-    go true h = omega arith
-    go false h = absurd (omega arith)
-
--- each byte of a run is a digit
-pub in-run : (l : List ℕ) (k i : ℕ) → i < run (drop k l) → isDigit (getD l (k + i) 0) ≡ true
-in-run l k i h = rw (getD-drop k l i 0) at (run-digit (drop k l) i h)
 
 -- ---- two digits
 
@@ -63,6 +43,9 @@ module _ (l : List ℕ) (k x y : ℕ) (n : k + 2 ≤ length l) (p : Digit (getD 
 -- ---- four digits
 
 module _ (l : List ℕ) (k v : ℕ) (n : k + 4 ≤ length l) (p : Values (getD l k 0) (getD l (k + 1) 0) (getD l (k + 2) 0) (getD l (k + 3) 0) v) where
+  step : (i j : ℕ) → j ≡ i + 1 → j ≤ length l → isDigit (getD l i 0) ≡ true → run (drop i l) ≡ 1 + run (drop j l)
+  step i j e h d = rw e (run-more l i (omega arith) d)
+
   pub four-digits : v < noValues → (r : ℕ) → ((a b c d : ℕ) → a < 16 → b < 16 → c < 16 → d < 16 → v ≡ packed a b c d → r ≡ 4096 * a + 256 * b + 16 * c + d)
       → Spelt l k twoBytes wordLimit r
   four-digits h r word =
@@ -72,30 +55,34 @@ module _ (l : List ℕ) (k v : ℕ) (n : k + 4 ≤ length l) (p : Values (getD l
       let c = value-back _ (i .2) in
       let d = value-back _ (i .3) in
       let w = word _ _ _ _ (a .0) (b .0) (c .0) (d .0) (p .values h) in
-      let f₂ : k + 1 + 1 ≡ k + 2 = omega arith in
-      let f₃ : k + 2 + 1 ≡ k + 3 = omega arith in
-      let f₄ : k + 3 + 1 ≡ k + 4 = omega arith in
+      let f : k + 2 + 1 ≡ k + 3 = omega arith in
       record {
         goes = λ _ next e.
-            let g₁ = run-more l k (omega arith) (i .0) in
-            let g₂ = rw f₂ at (run-more l (k + 1) (omega arith) (i .1)) in
-            let g₃ = rw f₃ at (run-more l (k + 2) (omega arith) (i .2)) in
-            let g₄ = rw f₄ at (run-more l (k + 3) (omega arith) (i .3)) in
-            rw e (omega arith);
-        number = λ _. omega (arith, word-number l k n, byte-number l k (omega arith), rw f₃ at (byte-number l (k + 2) (omega arith)));
+            omega (
+              arith,
+              step k (k + 1) refl (omega arith) (i .0),
+              step (k + 1) (k + 2) (omega arith) (omega arith) (i .1),
+              step (k + 2) (k + 3) (omega arith) (omega arith) (i .2),
+              step (k + 3) next (omega arith) (omega arith) (i .3),
+            );
+        number = λ _. omega (arith, word-number l k n, byte-number l k (omega arith), rw f at (byte-number l (k + 2) (omega arith)));
         stops = λ j. absurd (omega arith);
       }
 
   pub no-word : noValues ≤ v → Spelt l k twoBytes wordLimit wordLimit
   no-word h =
-      record { goes = λ j _ _. absurd (omega arith); number = λ j. absurd (omega arith); stops = λ _. go (ltb (run (drop k l)) 4) refl }
+      record {
+        goes = λ j _ _. absurd (omega arith);
+        number = λ j. absurd (omega arith);
+        stops = λ _. go (isDigit (getD l k 0)) (isDigit (getD l (k + 1) 0)) (isDigit (getD l (k + 2) 0)) (isDigit (getD l (k + 3) 0)) refl refl refl refl;
+      }
     where
-      go : (t : Bool) → ltb (run (drop k l)) 4 ≡ t → run (drop k l) < 4
-      go true t = ltb-true (run (drop k l)) 4 t
-      go false t =
-          let m = ltb-false (run (drop k l)) 4 t in
-          let z : k + 0 ≡ k = omega arith in
-          absurd (p .none h (rw z at (in-run l k 0 (omega arith)), in-run l k 1 (omega arith), in-run l k 2 (omega arith), in-run l k 3 (omega arith)))
+      go : (s t u w : Bool) → isDigit (getD l k 0) ≡ s → isDigit (getD l (k + 1) 0) ≡ t → isDigit (getD l (k + 2) 0) ≡ u → isDigit (getD l (k + 3) 0) ≡ w → run (drop k l) < 4
+      go false t u w a b c d = omega (arith, run-stop l k (omega arith) a)
+      go true false u w a b c d = omega (arith, step k (k + 1) refl (omega arith) a, run-stop l (k + 1) (omega arith) b)
+      go true true false w a b c d = omega (arith, step k (k + 1) refl (omega arith) a, step (k + 1) (k + 2) (omega arith) (omega arith) b, run-stop l (k + 2) (omega arith) c)
+      go true true true false a b c d = omega (arith, step k (k + 1) refl (omega arith) a, step (k + 1) (k + 2) (omega arith) (omega arith) b, step (k + 2) (k + 3) (omega arith) (omega arith) c, run-stop l (k + 3) (omega arith) d)
+      go true true true true a b c d = absurd (p .none h (a, b, c, d))
 
 -- ---- six digits
 

@@ -19,4 +19,5 @@ noValues = 0xFFFFFFFF
 pub record Values (a b c d r : ℕ) : Type 0 where
   pub are : r < noValues → Digits a b c d
   pub values : r < noValues → r ≡ packed (valueOf a) (valueOf b) (valueOf c) (valueOf d)
+  pub small : r < noValues → r ≤ 0x0F0F0F0F
   pub none : noValues ≤ r → Digits a b c d → ⊥

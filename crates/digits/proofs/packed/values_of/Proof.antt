@@ -1,6 +1,6 @@
 -- What is tested of four bytes at once is tested of each (`four-values`, `no-values`).
 use native.Mathlib.Omega.{arith}
-use Rattle.digits.proofs.PackLaws.{no-wrap, no-borrow, no-values, four-values}
+use Rattle.digits.proofs.PackLaws.{lane, no-wrap, no-borrow, no-values, four-values}
 use Rattle.digits.proofs.packed.values_of.Statement.{statement}
 use Rattle.digits.proofs.packed.values_of.Tie as tie
 use Rattle.digits.proofs.packed.values_of.Reads as reads
@@ -22,7 +22,7 @@ add-above-2 : tie.Need-add-above-2
 add-above-2 c = record { fits = omega (arith, no-wrap (c .args .bytes) (omega arith)) }
 
 returns : tie.Need-returns
-returns c = λ p q r s hp hq hr hs e. no-values p q r s hp hq hr hs (rw e at (c .if1 .taken))
+returns c = λ p q r s hp hq hr hs e. no-values (lane p hp) (lane q hq) (lane r hr) (lane s hs) (rw e at (c .if1 .taken))
 
 mul-result : tie.Need-mul-result
 mul-result c = record { fits = omega (arith, no-wrap (c .before .args .bytes) (omega arith)) }
@@ -34,7 +34,7 @@ sub-result : tie.Need-sub-result
 sub-result c = omega (arith, no-borrow (c .before .args .bytes) (c .if1 .left))
 
 returns-2 : tie.Need-returns-2
-returns-2 c = λ p q r s hp hq hr hs e. rw e (four-values p q r s hp hq hr hs (rw e at (c .if1 .left)))
+returns-2 c = λ p q r s hp hq hr hs e. rw e (four-values (lane p hp) (lane q hq) (lane r hr) (lane s hs) (rw e at (c .if1 .left)))
 
 pub values-of-spec : {M : Type 1} → statement M
 values-of-spec =

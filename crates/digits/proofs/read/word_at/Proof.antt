@@ -1,6 +1,5 @@
 -- The four bytes are digits with these values (`four-digits`), or not all digits (`no-word`).
 use denote.Ref.{now}
-use Rattle.digits.proofs.PackLaws.{values-small}
 use Rattle.digits.proofs.ReadLaws.{four-digits, no-word}
 use borrow.Author.Needs.{needs}
 use Rattle.digits.proofs.read.word_at.Statement.{statement}
@@ -47,7 +46,7 @@ returns c =
 word-of-requires : tie.Need-word-of-requires
 word-of-requires c κs =
     let p = c .before .before .pack .ensures in
-    values-small (c .before .values-of .ensures _ _ _ _ (p .1) (p .2) (p .3) (p .4) (p .0)) (c .if1 .left)
+    c .before .values-of .ensures _ _ _ _ (p .1) (p .2) (p .3) (p .4) (p .0) .small (c .if1 .left)
 
 returns-2 : tie.Need-returns-2
 returns-2 c =
