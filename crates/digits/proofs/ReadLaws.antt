@@ -13,6 +13,13 @@ use Rattle.digits.specs.Digits.{valueOf, run, Digit, Spelt, byteLimit, w
 use Rattle.digits.specs.Packed.{packed, noValues, Values}
 use Rattle.digits.proofs.DigitLaws.{value-back, run-more, run-stop, byte-number, word-number, triple-number}
 
+-- ---- one digit
+
+pub one-digit : (b r : ℕ) → isDigit b ≡ true → r ≡ valueOf b → Digit b r
+one-digit b r d e =
+    let v = value-back b d in
+    record { is = λ _. d; value = λ _. e; small = λ _. omega arith; most = omega arith; none = λ h. absurd (omega arith) }
+
 -- ---- two digits
 
 module _ (l : List ℕ) (k x y : ℕ) (n : k + 2 ≤ length l) (p : Digit (getD l k 0) x) (q : Digit (getD l (k + 1) 0) y) where

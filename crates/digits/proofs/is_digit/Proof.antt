@@ -7,21 +7,17 @@ use Rattle.digits.proofs.is_digit.Tie as tie
 use Rattle.digits.proofs.is_digit.Reads as reads
 use Rattle.digits.proofs.is_digit.Lts as lts
 
--- src/digits.rt:13:9
 returns : tie.Need-returns
 returns c = let b = c .before .args .b in simp (lt-leb 48 b (omega arith), lt-leb 65 b (omega arith))
 
--- src/digits.rt:16:9
 returns-2 : tie.Need-returns-2
 returns-2 c = let b = c .before .before .args .b in simp (le-leb 48 b (omega arith), le-leb b 57 (omega arith))
 
--- src/digits.rt:19:9
 returns-3 : tie.Need-returns-3
 returns-3 c =
     let b = c .before .before .before .args .b in
     simp (le-leb 48 b (omega arith), lt-leb b 57 (omega arith), lt-leb 65 b (omega arith))
 
--- src/digits.rt:9:1
 returns-4 : tie.Need-returns-4
 returns-4 c =
     let b = c .before .before .before .args .b in

@@ -4,7 +4,8 @@ use mathlib.Core.Path.{_≡_, sym, _∙_}
 use mathlib.Core.Bool.{true}
 use Rattle.model.specs.Lines.{isDigit}
 use borrow.Author.Tests.{not-true, not-false}
-use Rattle.digits.proofs.DigitLaws.{digit-range, value-back, value-decimal, value-letter}
+use Rattle.digits.proofs.DigitLaws.{digit-range, value-decimal, value-letter}
+use Rattle.digits.proofs.ReadLaws.{one-digit}
 use borrow.Author.Needs.{needs}
 use Rattle.digits.proofs.read.value.Statement.{statement}
 use Rattle.digits.proofs.read.value.Tie as tie
@@ -33,17 +34,8 @@ cast-result c = search needs
 
 returns-2 : tie.Need-returns-2
 returns-2 c =
-    let b = c .before .before .before .args .b in
-    let d : isDigit b ≡ true = sym (c .before .before .is-digit .ensures) ∙ not-false _ (c .before .if1 .left) in
-    let v = value-decimal _ d (c .if2 .taken) in
-    let r = value-back b d in
-    record {
-      is = λ _. d;
-      value = λ _. sym v;
-      small = λ _. omega arith;
-      most = omega arith;
-      none = λ h. absurd (omega arith);
-    }
+    let d : isDigit (c .before .before .before .args .b) ≡ true = sym (c .before .before .is-digit .ensures) ∙ not-false _ (c .before .if1 .left) in
+    one-digit _ _ d (sym (value-decimal _ d (c .if2 .taken)))
 
 sub-result-2 : tie.Need-sub-result-2
 sub-result-2 c = search needs
@@ -53,17 +45,8 @@ cast-result-2 c = search needs
 
 returns-3 : tie.Need-returns-3
 returns-3 c =
-    let b = c .before .before .before .args .b in
-    let d : isDigit b ≡ true = sym (c .before .before .is-digit .ensures) ∙ not-false _ (c .before .if1 .left) in
-    let v = value-letter _ d (c .if2 .left) in
-    let r = value-back b d in
-    record {
-      is = λ _. d;
-      value = λ _. sym v;
-      small = λ _. omega arith;
-      most = omega arith;
-      none = λ h. absurd (omega arith);
-    }
+    let d : isDigit (c .before .before .before .args .b) ≡ true = sym (c .before .before .is-digit .ensures) ∙ not-false _ (c .before .if1 .left) in
+    one-digit _ _ d (sym (value-letter _ d (c .if2 .left)))
 
 pub value-spec : {M : Type 1} → statement M
 value-spec =
