@@ -1,4 +1,5 @@
--- Laws of digits: which bytes they are, what they are worth, how many stand at a place, and the numbers that they spell.
+-- Laws of digits: which bytes they are, what they are worth, how many stand at a place, and the numbers that they spell; and a rule of each
+-- byte, computed.
 use Prim.Native.Nat.{ℕ, zero, suc, _+_, _-_, _*_, _/_, _%_, _<_, _≤_}
 use mathlib.Core.Path.{_≡_, refl}
 use mathlib.Core.List.{List, [], _∷_}

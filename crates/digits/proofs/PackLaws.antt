@@ -35,7 +35,7 @@ module _ (a b c d p q r s : ℕ) (ha : a < 256) (hb : b < 256) (hc : c < 256) (h
       and-block 8 ((d * 2 ^ 8 + c) * 2 ^ 8 + b) ((s * 2 ^ 8 + r) * 2 ^ 8 + q) a p ha hp
       ∙ rw (and-block 8 (d * 2 ^ 8 + c) (s * 2 ^ 8 + r) b q hb hq, and-block 8 d s c r hc hr)
 
--- ---- spelling
+-- ---- values: spelt, and joined to a number
 
 pub digit-small : (a : ℕ) → a < 16 → digitOf a < 256
 digit-small a h = omega (arith, digit-sum a h)

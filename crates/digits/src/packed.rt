@@ -20,8 +20,9 @@ pub fn spelling(values: u32) -> u32
 
 pub const NO_VALUES: u32 = 0xFFFFFFFF;
 
-// The values of four digits, or NO_VALUES where one of the bytes is no digit. Of digits only letters have 64, and 17 less puts 'A' at '0'. Behind
-// '0' stand ten figures or six letters: there, and only there, 6 more, or 10 more of a letter, still leaves 48 to 63, since 3 is odd.
+// The values of four digits, or NO_VALUES where one of the bytes is no digit. Of digits only letters have 64, and 17 less puts 'A' where '0' is. From
+// there on stand ten figures, or six letters: just these are 48 to 63, and are so still with 6 more, or for a letter 10 more. One `&` tests both:
+// where that leads to the next sixteen, one of the two sixteens is even, and 48 is the third.
 pub fn values_of(bytes: u32) -> u32
     ensures { λ r. ⌜ ((a b c d : ℕ) → a < 256 → b < 256 → c < 256 → d < 256 → bytes ≡ packed a b c d → Values a b c d r) ⌝ }
 {
