@@ -15,7 +15,7 @@ use Rattle.model.specs.Miter.{zGates, firstGate, firstZ}
 use Rattle.laws.specs.ListText.{below-at}
 use Rattle.laws.specs.MiterOrder.{last, shift-below, below-right}
 use Rattle.netlist.specs.declared.Pair.{Pair}
-use Rattle.gates.specs.Gates.{noGate}
+use Rattle.listing.specs.Listing.{noGate}
 use Rattle.netlist.specs.Within.{Within}
 use Rattle.miter.specs.Miters.{Lists}
 use Rattle.miter.proofs.MiterLaws.{z-of}
@@ -24,7 +24,7 @@ use Rattle.emit_laws.specs.Trees.Tree.{old, cut}
 use Rattle.emit_laws.specs.Subst.{subst2}
 use Rattle.emit_laws.specs.Outputs.{outTree, chain, outsTree}
 use Rattle.emit_laws.specs.Place.{firstZClause}
-use Rattle.emit_laws.specs.Gates.{linkOf}
+use Rattle.emit_laws.specs.Listing.{linkOf}
 use Rattle.emit_laws.specs.Emit.{lastTree}
 use Rattle.emit_laws.specs.Stepwise.{Then, then-old}
 use Rattle.derive.specs.declared.lines.Derived.{Derived}

@@ -10,8 +10,8 @@ use Rattle.model.specs.Nets.{netOf, readsBelow}
 use Rattle.laws.specs.Literals.{literals-below}
 use Rattle.laws.specs.Pairs.{isXor}
 use Rattle.frame.specs.declared.Op.{Op}
-use Rattle.gates.specs.declared.Gate.{Gate}
-use Rattle.gates.specs.Gates.{gateMeant}
+use Rattle.listing.specs.declared.Gate.{Gate}
+use Rattle.listing.specs.Listing.{gateMeant}
 use Rattle.miter.proofs.MiterLaws.{meant}
 use Rattle.model.specs.Clauses.{positive}
 use Rattle.frame.specs.Frames.{opOf}

@@ -18,8 +18,8 @@ use Rattle.laws.specs.MiterOrder.{length-gates, ordered-gates, shift-below}
 use Rattle.fold_laws.specs.Table as model
 use Rattle.fold_laws.specs.Entries.{length-bases, length-table}
 use Rattle.fold_laws.specs.Engine.{movedTo, bothTable, repsApart, byReps}
-use Rattle.gates.specs.declared.Gate as gates
-use Rattle.gates.specs.Gates.{gateMeant, noGate}
+use Rattle.listing.specs.declared.Gate as listing
+use Rattle.listing.specs.Listing.{gateMeant, noGate}
 use Rattle.miter.specs.Miters.{zGate}
 use Rattle.miter.proofs.MiterLaws.{z-of}
 use Rattle.table.specs.Buckets.{Indexed}
@@ -89,7 +89,7 @@ unfolding byReps
 from-first a b = refl
 
 -- the outputs k of both lists, as the XOR that compares them
-record OutputsAt (a b : Netlist) (k : ℕ) (g : gates.Gate) : Type 0 where
+record OutputsAt (a b : Netlist) (k : ℕ) (g : listing.Gate) : Type 0 where
   left : g .x ≡ getD (a .outs) k 0
   right : g .y ≡ getD (map (movedTo a) (b .outs)) k 0
   left-inside : netOf (g .x) < length (bothTable a b)
@@ -100,7 +100,7 @@ map-number f [] k h = absurd (omega arith)
 map-number f (x ∷ l) zero h = refl
 map-number f (x ∷ l) (suc k) h = map-number f l k (omega arith)
 
-outputs-at : (a b : Netlist) → pairs.Pair a b → (k : ℕ) (g : gates.Gate) → k < length (a .outs) → gateMeant g ≡ getD (zGates a b) k noGate → OutputsAt a b k g
+outputs-at : (a b : Netlist) → pairs.Pair a b → (k : ℕ) (g : listing.Gate) → k < length (a .outs) → gateMeant g ≡ getD (zGates a b) k noGate → OutputsAt a b k g
 outputs-at a b ab k g h e =
     let m : gateMeant g ≡ zGate (a .inputs) (length (a .gates)) (a .outs) (b .outs) k = e ∙ z-of a b ab k noGate h in
     let x : g .x ≡ getD (a .outs) k 0 = ap (λ (g : Gate). g .x) m in
@@ -118,7 +118,7 @@ outputs-at a b ab k g h e =
     }
 
 -- their representatives, read from the table, and where the comparison goes on
-module _ (a b : Netlist) (ab : pairs.Pair a b) (k x y : ℕ) (g : gates.Gate) (h : k < length (a .outs)) (is : gateMeant g ≡ getD (zGates a b) k noGate)
+module _ (a b : Netlist) (ab : pairs.Pair a b) (k x y : ℕ) (g : listing.Gate) (h : k < length (a .outs)) (is : gateMeant g ≡ getD (zGates a b) k noGate)
     (fx : netOf (g .x) < length (bothTable a b) → x ≡ model.repOf (bothTable a b) (g .x)) (fy : netOf (g .y) < length (bothTable a b) → y ≡ model.repOf (bothTable a b) (g .y)) where
   abbrev left : List ℕ
   left = a .outs

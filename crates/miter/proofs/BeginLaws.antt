@@ -15,7 +15,7 @@ use Rattle.model.specs.Clauses.{Clause, positive, negative, insert, join, claus
 use Rattle.model.specs.Checker.{begin, stored, storedAll}
 use Rattle.model.specs.Miter.{firstGate, firstClause, lastClause, miterGates, miterVars, miter}
 use Rattle.netlist.specs.declared.Pair.{Pair}
-use Rattle.gates.specs.Gates.{noGate}
+use Rattle.listing.specs.Listing.{noGate}
 use Rattle.miter.specs.declared.variables.Definition.{Definition}
 use Rattle.clause.specs.Sets.{Proper}
 use Rattle.steps.specs.Progress.{clausesOf, Held, Tracks}

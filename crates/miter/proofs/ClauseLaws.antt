@@ -12,7 +12,7 @@ use Rattle.model.specs.Miter.{gatesOf, clauseCount, behind, firstGateClause, fi
 use Rattle.frame.specs.declared.Op.{Op}
 use Rattle.frame.specs.declared.Op.the-variants.{And, Xor}
 use Rattle.frame.specs.Frames.{opOf}
-use Rattle.gates.specs.Gates.{noGate}
+use Rattle.listing.specs.Listing.{noGate}
 use Rattle.steps.specs.Progress.{clausesOf}
 
 -- as many as the gate's definition has

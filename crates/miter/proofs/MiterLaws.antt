@@ -21,8 +21,8 @@ use Rattle.frame.specs.declared.Op.the-variants.{And, Xor}
 use Rattle.frame.specs.Frames.{opOf}
 use Rattle.literal.specs.declared.Literal.{Literal}
 use Rattle.netlist.specs.declared.Pair.{Pair}
-use Rattle.gates.specs.declared.Gate as gates
-use Rattle.gates.specs.Gates.{gateMeant, noGate}
+use Rattle.listing.specs.declared.Gate as listing
+use Rattle.listing.specs.Listing.{gateMeant, noGate}
 use Rattle.netlist.specs.Within.{Within}
 use Rattle.miter.specs.declared.variables.Definition.{Definition}
 use Rattle.miter.specs.Miters.{Lists, Defines, gateCount, zGate, wVariable, wGate}
@@ -44,7 +44,7 @@ pub meant : (op : Op) (x y : ℕ) → gateMeant (record { op = op; x = x; y = y 
 meant And x y = refl
 meant Xor x y = refl
 
-module _ (g : gates.Gate) (m : Gate) (is : gateMeant g ≡ m) where
+module _ (g : listing.Gate) (m : Gate) (is : gateMeant g ≡ m) where
   op-is : m .op ≡ opOf (g .op)
   op-is = ap (λ (k : Gate). k .op) (sym is ∙ meant (g .op) (g .x) (g .y))
 
@@ -62,7 +62,7 @@ module _ (g : gates.Gate) (m : Gate) (is : gateMeant g ≡ m) where
 -- ---- definitions
 
 -- variable t as a gate over variables below it
-pub gate-defines : (g : gates.Gate) (t : ℕ) (n x y : Literal) → n .code ≡ positive t → x .code ≡ g .x → y .code ≡ g .y → t ≤ highestVariable
+pub gate-defines : (g : listing.Gate) (t : ℕ) (n x y : Literal) → n .code ≡ positive t → x .code ≡ g .x → y .code ≡ g .y → t ≤ highestVariable
     → readsBelow t (gateMeant g) ≡ true → Defines (record { op = g .op; n = n; x = x; y = y }) t (gateMeant g)
 gate-defines g t n x y en ex ey low r =
     let b = literals-below t (gateMeant g) r in
@@ -176,7 +176,7 @@ module _ {text : List ℕ} {p : Pair} (w : Lists text p) where
   pub few-right : p .right ≤ mostGates
   few-right = within .right
 
-  pub right-literals : (k : ℕ) → k < p .right → (g : gates.Gate) → gateMeant g ≡ getD (w .right .gates) k noGate → (g .x < 4096) × (g .y < 4096)
+  pub right-literals : (k : ℕ) → k < p .right → (g : listing.Gate) → gateMeant g ≡ getD (w .right .gates) k noGate → (g .x < 4096) × (g .y < 4096)
   right-literals k h g is =
       let m : Gate = getD (w .right .gates) k noGate in
       let o = ordered-at (1 + w .right .inputs) (w .right .gates) k noGate (w .alike .right .ordered) (omega (arith, w .right-gates)) in
@@ -225,7 +225,7 @@ module _ {text : List ℕ} {p : Pair} (w : Lists text p) where
       rw (← n) (sym (z-at a b (w .alike) j noGate (omega (arith, length-z a b (w .alike), w .outputs))))
 
   -- it reads variables below its own; so its definition is that of the gate that was read for it
-  pub read-variable : (v i : ℕ) (d : Definition) (g : gates.Gate) → v ≡ 1 + p .inputs + i → i < gateCount p → gateMeant g ≡ getD (miterGates a b) i noGate
+  pub read-variable : (v i : ℕ) (d : Definition) (g : listing.Gate) → v ≡ 1 + p .inputs + i → i < gateCount p → gateMeant g ≡ getD (miterGates a b) i noGate
       → (readsBelow v (gateMeant g) ≡ true → Defines d v (gateMeant g)) → Defines d v (getD (miterGates a b) i noGate)
   read-variable v i d g e h is def =
       let at : firstGate a + i ≡ v = omega (arith, w .inputs) in

@@ -1,9 +1,9 @@
 // The gates and outputs of both lists in the miter's numbering: the right list's gates lie behind the left list's.
 use frame::Op;
-use gates::Gate;
-use gates::gate_at;
-use gates::op_at;
-use gates::output_at;
+use listing::Gate;
+use listing::gate_at;
+use listing::op_at;
+use listing::output_at;
 use literal::Literal;
 use netlist::Pair;
 ghost use mathlib.Core.Path.{_≡_};
@@ -13,7 +13,7 @@ ghost use Rattle.model.specs.Limits.{mostGates};
 ghost use Rattle.model.specs.Miter as model;
 ghost use Rattle.model.specs.Miter.{gatesOf, zGates};
 ghost use Rattle.frame.specs.Frames.{opOf};
-ghost use Rattle.gates.specs.Gates.{gateMeant, noGate};
+ghost use Rattle.listing.specs.Listing.{gateMeant, noGate};
 ghost use Rattle.miter.specs.Miters.{Lists};
 
 // A right list's literal as the miter's: its gates lie behind the left list's.

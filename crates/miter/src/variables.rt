@@ -3,7 +3,7 @@
 use crate::both::gate_of;
 use crate::both::outputs_of;
 use frame::Op;
-use gates::Gate;
+use listing::Gate;
 use literal::Literal;
 use netlist::Pair;
 ghost use mathlib.Core.Path.{_≡_};
@@ -13,7 +13,7 @@ ghost use lib.ListN.{getD};
 ghost use Rattle.model.specs.Limits.{highestVariable};
 ghost use Rattle.model.specs.Nets.{readsBelow};
 ghost use Rattle.model.specs.Miter.{miterGates};
-ghost use Rattle.gates.specs.Gates.{gateMeant, noGate};
+ghost use Rattle.listing.specs.Listing.{gateMeant, noGate};
 ghost use Rattle.miter.specs.Miters.{Lists, Defines, gateCount, wVariable, wGate};
 
 // n = AND or XOR of x, y.

@@ -19,8 +19,8 @@ use Rattle.laws.specs.Values.{Operations, literalOver, gateOver}
 use Rattle.frame.specs.declared.Op.{Op}
 use Rattle.frame.specs.declared.Op.the-variants.{And, Xor}
 use Rattle.frame.specs.Frames.{opOf, gateKind}
-use Rattle.gates.specs.declared.Gate as gates
-use Rattle.gates.specs.Gates.{gateMeant, noGate}
+use Rattle.listing.specs.declared.Gate as listing
+use Rattle.listing.specs.Listing.{gateMeant, noGate}
 use Rattle.values.specs.Values.{HoldsBy}
 
 pub hold-none : {A : Type 0} {R : ℕ → A → Type 0} {none : A} {numbers : List ℕ} → HoldsBy R none numbers []
@@ -51,7 +51,7 @@ module _ {A : Type 0} (o : Operations A) (R : ℕ → A → Type 0) where
 
   module _ {text : List ℕ} {n : Netlist} (s : Stands text n) where
     -- gate k stored behind the nets before it
-    pub gate-stored : (xs : List A) → length xs ≡ 1 + n .inputs → (k : ℕ) {numbers : List ℕ} (g : gates.Gate) (a b v : ℕ) → k < length (n .gates)
+    pub gate-stored : (xs : List A) → length xs ≡ 1 + n .inputs → (k : ℕ) {numbers : List ℕ} (g : listing.Gate) (a b v : ℕ) → k < length (n .gates)
         → Holding numbers (after (gateOver o) xs (n .gates) k) → 1 + n .inputs + k < length numbers → gateMeant g ≡ getD (n .gates) k noGate
         → Reads numbers (g .x) a → Reads numbers (g .y) b → ((x y : A) → R a x → R b y → R v (o .apply (opOf (g .op)) x y))
         → Holding (set numbers (1 + n .inputs + k) v) (after (gateOver o) xs (n .gates) (k + 1))

@@ -1,8 +1,8 @@
 // The values of nets, a byte of 0 or 1 each in a lent slice: net 0 and the inputs, then what each gate makes of those before it. The gates and
 // the outputs are those of the list that stands at a place of a text; nothing here reads or refuses a list.
 use frame::Op;
-use gates::gate_at;
-use gates::output_at;
+use listing::gate_at;
+use listing::output_at;
 use literal::Literal;
 ghost use mathlib.Core.Path.{_≡_};
 ghost use Prim.Native.Nat.{ℕ, _+_, _≤_, _<_};

@@ -16,7 +16,7 @@ use Rattle.values.proofs.read_word.Tie as tie
 use Rattle.values.proofs.read_word.Reads as reads
 use Rattle.values.proofs.read_word.Lts as lts
 use Rattle.literal.proofs.Literal.of.Reads as of-reads
-use Rattle.gates.proofs.output_at.Reads as output-at-reads
+use Rattle.listing.proofs.output_at.Reads as output-at-reads
 use Rattle.values.proofs.literal_at.Reads as literal-at-reads
 
 abbrev Inv-loop : tie.InvT-loop

@@ -5,7 +5,7 @@ use denote.Ref.{now}
 use Rattle.model.specs.Nets.{Gate}
 use Rattle.laws.specs.Literals.{literals-below}
 use Rattle.frame.specs.Frames.{opOf}
-use Rattle.gates.specs.Gates.{gateMeant}
+use Rattle.listing.specs.Listing.{gateMeant}
 use Rattle.miter.proofs.MiterLaws.{meant}
 use Rattle.miter.proofs.ClauseLaws.{few-each}
 use Rattle.emit.specs.Pass.{GateDone}

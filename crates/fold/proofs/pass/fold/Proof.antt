@@ -10,7 +10,7 @@ use Rattle.table.specs.Buckets.{Indexed}
 use Rattle.miter.specs.Miters.{Lists}
 use Rattle.laws.specs.MiterOrder.{length-gates}
 use Rattle.fold_laws.specs.Table as model
-use Rattle.gates.specs.Gates.{gateMeant}
+use Rattle.listing.specs.Listing.{gateMeant}
 use Rattle.miter.proofs.MiterLaws.{few-left, few-right}
 use Rattle.fold.proofs.PassLaws.{after, after-none, after-all, gate-entered}
 use borrow.Author.Needs.{needs}

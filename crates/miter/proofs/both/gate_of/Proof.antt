@@ -4,7 +4,7 @@ use mathlib.Core.Path.{sym, _∙_}
 use native.Mathlib.Omega.{arith}
 use lib.ListN.{length}
 use Rattle.model.specs.Miter.{shift}
-use Rattle.gates.specs.Gates.{noGate}
+use Rattle.listing.specs.Listing.{noGate}
 use Rattle.miter.proofs.MiterLaws.{few-left, right-literals, moved, left-of, right-gate-of}
 use borrow.Author.Needs.{needs}
 use Rattle.miter.proofs.both.gate_of.Statement.{statement}
@@ -12,7 +12,7 @@ use Rattle.miter.proofs.both.gate_of.Tie as tie
 use Rattle.miter.proofs.both.gate_of.Reads as reads
 use Rattle.miter.proofs.both.gate_of.Lts as lts
 use Rattle.miter.proofs.both.shift.Reads as shift-reads
-use Rattle.gates.proofs.gate_at.Reads as gate-at-reads
+use Rattle.listing.proofs.gate_at.Reads as gate-at-reads
 
 gate-at-requires : tie.Need-gate-at-requires
 gate-at-requires c κs = search needs

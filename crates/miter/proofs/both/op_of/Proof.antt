@@ -4,14 +4,14 @@ use mathlib.Core.Path.{sym, ap, _∙_}
 use native.Mathlib.Omega.{arith}
 use lib.ListN.{length}
 use Rattle.model.specs.Nets.{Gate}
-use Rattle.gates.specs.Gates.{noGate}
+use Rattle.listing.specs.Listing.{noGate}
 use Rattle.miter.proofs.MiterLaws.{left-of, right-gate-of}
 use borrow.Author.Needs.{needs}
 use Rattle.miter.proofs.both.op_of.Statement.{statement}
 use Rattle.miter.proofs.both.op_of.Tie as tie
 use Rattle.miter.proofs.both.op_of.Reads as reads
 use Rattle.miter.proofs.both.op_of.Lts as lts
-use Rattle.gates.proofs.op_at.Reads as op-at-reads
+use Rattle.listing.proofs.op_at.Reads as op-at-reads
 
 op-at-requires : tie.Need-op-at-requires
 op-at-requires c κs = search needs

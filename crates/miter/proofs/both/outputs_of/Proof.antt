@@ -12,7 +12,7 @@ use Rattle.miter.proofs.both.outputs_of.Tie as tie
 use Rattle.miter.proofs.both.outputs_of.Reads as reads
 use Rattle.miter.proofs.both.outputs_of.Lts as lts
 use Rattle.miter.proofs.both.shift.Reads as shift-reads
-use Rattle.gates.proofs.output_at.Reads as output-at-reads
+use Rattle.listing.proofs.output_at.Reads as output-at-reads
 
 output-at-requires : tie.Need-output-at-requires
 output-at-requires c κs = search needs

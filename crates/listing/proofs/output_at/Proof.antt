@@ -5,12 +5,12 @@ use native.Mathlib.Omega.{arith}
 use denote.Ref.{now}
 use Rattle.model.specs.Frames.{Frame, field, outputKind, widths}
 use Rattle.laws.specs.ListText.{headerBytes, gateBytes, outputBytes}
-use Rattle.gates.proofs.PlaceLaws.{beyond, framed-there, only-output, line-there, output-place}
+use Rattle.listing.proofs.PlaceLaws.{beyond, framed-there, only-output, line-there, output-place}
 use borrow.Author.Needs.{needs}
-use Rattle.gates.proofs.output_at.Statement.{statement}
-use Rattle.gates.proofs.output_at.Tie as tie
-use Rattle.gates.proofs.output_at.Reads as reads
-use Rattle.gates.proofs.output_at.Lts as lts
+use Rattle.listing.proofs.output_at.Statement.{statement}
+use Rattle.listing.proofs.output_at.Tie as tie
+use Rattle.listing.proofs.output_at.Reads as reads
+use Rattle.listing.proofs.output_at.Lts as lts
 use Rattle.frame.proofs.kinds.kind_at.Reads as kind-at-reads
 use Rattle.frame.proofs.read.output_at.Reads as output-at-reads
 

@@ -17,7 +17,7 @@ ghost use Rattle.model.specs.Limits.{mostGates, mostOutputs};
 ghost use Rattle.model.specs.Nets.{Netlist};
 ghost use Rattle.laws.specs.ListText.{Stands};
 ghost use Rattle.frame.specs.Frames.{opOf};
-ghost use Rattle.gates.specs.Gates.{gateMeant, noGate};
+ghost use Rattle.listing.specs.Listing.{gateMeant, noGate};
 
 pub struct Gate {
     pub op: Op,

@@ -4,7 +4,7 @@ use Rattle.model.specs.Nets as nets
 use Rattle.model.specs.Lists.{gateOf}
 use Rattle.frame.specs.declared.Frame.the-variants as frame-case
 use Rattle.frame.specs.Frames.{frameOf}
-use Rattle.gates.specs.declared.Gate.{Gate}
+use Rattle.listing.specs.declared.Gate.{Gate}
 
 -- the gate of the definitions that it is: that of its frame
 abbrev pub gateMeant : Gate → nets.Gate

@@ -29,7 +29,7 @@ use Rattle.frame.specs.Frames.First.{found}
 use Rattle.frame.specs.Kinds.{KindAt, KindSays, Unframed}
 use Rattle.frame.specs.Fields.{LineAt}
 use Rattle.frame.proofs.KindLaws.{found-kind, found-framed}
-use Rattle.gates.specs.Gates.{noGate}
+use Rattle.listing.specs.Listing.{noGate}
 
 -- ---- a frame at a place
 

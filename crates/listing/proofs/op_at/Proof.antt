@@ -7,13 +7,13 @@ use denote.Ref.{now}
 use lib.ListN.{getD}
 use Rattle.laws.specs.Pairs.{isXor}
 use Rattle.laws.specs.ListText.{headerBytes, gateBytes}
-use Rattle.gates.specs.Gates.{noGate}
-use Rattle.gates.proofs.PlaceLaws.{beyond, kind-there, only-gate, gate-place, op-is}
+use Rattle.listing.specs.Listing.{noGate}
+use Rattle.listing.proofs.PlaceLaws.{beyond, kind-there, only-gate, gate-place, op-is}
 use borrow.Author.Needs.{needs}
-use Rattle.gates.proofs.op_at.Statement.{statement}
-use Rattle.gates.proofs.op_at.Tie as tie
-use Rattle.gates.proofs.op_at.Reads as reads
-use Rattle.gates.proofs.op_at.Lts as lts
+use Rattle.listing.proofs.op_at.Statement.{statement}
+use Rattle.listing.proofs.op_at.Tie as tie
+use Rattle.listing.proofs.op_at.Reads as reads
+use Rattle.listing.proofs.op_at.Lts as lts
 use Rattle.frame.proofs.kinds.kind_at.Reads as kind-at-reads
 
 add-place : tie.Need-add-place

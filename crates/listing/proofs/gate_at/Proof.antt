@@ -8,18 +8,18 @@ use lib.ListN.{getD}
 use Rattle.laws.specs.Pairs.{isXor}
 use Rattle.laws.specs.ListText.{headerBytes, gateBytes}
 use Rattle.frame.specs.Frames.{gateKind}
-use Rattle.gates.specs.Gates.{noGate}
+use Rattle.listing.specs.Listing.{noGate}
 use Rattle.frame.proofs.WriteLaws.{operands-widths}
 use mathlib.Core.Bool.{false}
-use Rattle.gates.proofs.PlaceLaws.{beyond, framed-there, only-gate, line-there, gate-place, gate-is}
+use Rattle.listing.proofs.PlaceLaws.{beyond, framed-there, only-gate, line-there, gate-place, gate-is}
 use borrow.Author.Needs.{needs}
-use Rattle.gates.proofs.gate_at.Statement.{statement}
-use Rattle.gates.proofs.gate_at.Tie as tie
-use Rattle.gates.proofs.gate_at.Reads as reads
-use Rattle.gates.proofs.gate_at.Lts as lts
+use Rattle.listing.proofs.gate_at.Statement.{statement}
+use Rattle.listing.proofs.gate_at.Tie as tie
+use Rattle.listing.proofs.gate_at.Reads as reads
+use Rattle.listing.proofs.gate_at.Lts as lts
 use Rattle.frame.proofs.kinds.kind_at.Reads as kind-at-reads
 use Rattle.frame.proofs.read.operands_at.Reads as operands-at-reads
-use Rattle.gates.proofs.no_gate.Reads as no-gate-reads
+use Rattle.listing.proofs.no_gate.Reads as no-gate-reads
 
 add-place : tie.Need-add-place
 add-place c = search needs
