@@ -4,7 +4,7 @@ use Prim.Native.Nat.{ℕ, _+_, _-_, _*_, _/_, _%_, _^_, _<_, _≤_}
 use mathlib.Core.Path.{_≡_, refl, sym, _∙_}
 use mathlib.Core.Bool.{true, not, cond}
 use native.Mathlib.Omega.{arith}
-use lib.Bits.{bitAnd, and-block, and-high, and-le-l}
+use lib.Bits.{bitAnd, and-block, and-mask, and-high, and-le-l, and-le-r}
 use lib.Dec.{eqb, leb, ltb}
 use borrow.Author.Tests.{eqb-true, eq-eqb, leb-true, ltb-true, not-true}
 use Rattle.model.specs.Lines.{isDigit, digitOf, digitValue}
@@ -73,10 +73,10 @@ test a = bitAnd (bitAnd (figure a) (above a)) 240
 pub record Lane (a : ℕ) : Type 0 where
   byte : a < 256
   back : a ≡ figure a + 17 * letter a
-  small : (figure a + 10 * letter a ≤ 248) × (bitAnd (figure a) (above a) < 256) × (test a < 256)
+  small : (above a ≤ 248) × (bitAnd (figure a) (above a) < 256) × (test a < 256)
   is : test a ≡ 48 → isDigit a ≡ true
   passes : isDigit a ≡ true → test a ≡ 48
-  value : isDigit a ≡ true → figure a + 10 * letter a ≡ 48 + valueOf a
+  value : isDigit a ≡ true → a % 16 + 9 * letter a ≡ valueOf a
 
 pub lane : (a : ℕ) → a < 256 → Lane a
 unfolding valueOf test above figure letter
@@ -86,13 +86,13 @@ lane a h =
       byte = h;
       back = omega arith;
       small = (
-        leb-true _ _ (each (λ a. leb (figure a + 10 * letter a) 248) 256 refl a h),
+        leb-true _ _ (each (λ a. leb (above a) 248) 256 refl a h),
         ltb-true _ _ (each (λ a. ltb (bitAnd (figure a) (above a)) 256) 256 refl a h),
         ltb-true _ _ (each (λ a. ltb (test a) 256) 256 refl a h),
       );
       is = λ t. sym e ∙ eq-eqb _ _ t;
       passes = λ i. eqb-true _ _ (e ∙ i);
-      value = λ i. rw i (rw i at (same (λ a. cond (isDigit a) (figure a + 10 * letter a) 0) (λ a. cond (isDigit a) (48 + digitValue a) 0) 256 refl a h));
+      value = λ i. rw i (rw i at (same (λ a. cond (isDigit a) (a % 16 + 9 * letter a) 0) (λ a. cond (isDigit a) (digitValue a) 0) 256 refl a h));
     }
 
 -- four bytes, as the code takes them
@@ -101,6 +101,9 @@ letters n = bitAnd n 0x40404040 / 64
 
 abbrev figures : ℕ → ℕ
 figures n = n - 17 * letters n
+
+abbrev values : ℕ → ℕ
+values n = bitAnd n 0x0F0F0F0F + 9 * letters n
 
 abbrev tests : ℕ → ℕ
 tests n = bitAnd (bitAnd (figures n) (figures n + 0x06060606 + 4 * letters n)) 0xF0F0F0F0
@@ -115,12 +118,20 @@ module _ {a b c d : ℕ} (p : Lane a) (q : Lane b) (r : Lane c) (s : Lane d) whe
   figures-packed : figures (packed a b c d) ≡ packed (figure a) (figure b) (figure c) (figure d)
   figures-packed = rw letters-packed (omega arith)
 
+  values-packed : values (packed a b c d) ≡ packed (a % 16 + 9 * letter a) (b % 16 + 9 * letter b) (c % 16 + 9 * letter c) (d % 16 + 9 * letter d)
+  values-packed =
+      let e = and-packed a b c d 15 15 15 15 (p .byte) (q .byte) (r .byte) (s .byte) (omega arith) (omega arith) (omega arith) (omega arith) in
+      rw (e, and-mask a 4, and-mask b 4, and-mask c 4, and-mask d 4, letters-packed) (omega arith)
+
+  aboves-packed : figures (packed a b c d) + 0x06060606 + 4 * letters (packed a b c d) ≡ packed (above a) (above b) (above c) (above d)
+  unfolding above
+  aboves-packed = rw (figures-packed, letters-packed) (omega arith)
+
   tests-packed : tests (packed a b c d) ≡ packed (test a) (test b) (test c) (test d)
-  unfolding test above
+  unfolding test
   tests-packed =
-      let e : packed (figure a) (figure b) (figure c) (figure d) + 0x06060606 + 4 * packed (letter a) (letter b) (letter c) (letter d) ≡ packed (above a) (above b) (above c) (above d) = omega arith in
       let m = and-packed (figure a) (figure b) (figure c) (figure d) (above a) (above b) (above c) (above d) (omega arith) (omega arith) (omega arith) (omega arith) (omega arith) (omega arith) (omega arith) (omega arith) in
-      rw (figures-packed, letters-packed, e, m) (and-packed _ _ _ _ 240 240 240 240 (p .small .1) (q .small .1) (r .small .1) (s .small .1) (omega arith) (omega arith) (omega arith) (omega arith))
+      rw (aboves-packed, figures-packed, m) (and-packed _ _ _ _ 240 240 240 240 (p .small .1) (q .small .1) (r .small .1) (s .small .1) (omega arith) (omega arith) (omega arith) (omega arith))
 
   pub no-values : (tests (packed a b c d) ≡ 0x30303030 → ⊥) → Values a b c d noValues
   no-values fails =
@@ -131,22 +142,21 @@ module _ {a b c d : ℕ} (p : Lane a) (q : Lane b) (r : Lane c) (s : Lane d) whe
         none = λ _ i. fails (omega (arith, tests-packed, p .passes (i .0), q .passes (i .1), r .passes (i .2), s .passes (i .3)));
       }
 
-  pub four-values : tests (packed a b c d) ≡ 0x30303030 → Values a b c d (figures (packed a b c d) + 10 * letters (packed a b c d) - 0x30303030)
+  pub four-values : tests (packed a b c d) ≡ 0x30303030 → Values a b c d (values (packed a b c d))
   four-values e =
       let t = same-parts (test a) (test b) (test c) (test d) 48 48 48 48 (p .small .2) (q .small .2) (r .small .2) (s .small .2) (omega arith) (omega arith) (omega arith) (omega arith) (sym tests-packed ∙ e) in
       let i : Digits a b c d = (p .is (t .0), q .is (t .1), r .is (t .2), s .is (t .3)) in
-      let v : figures (packed a b c d) + 10 * letters (packed a b c d) - 0x30303030 ≡ packed (valueOf a) (valueOf b) (valueOf c) (valueOf d) = rw (figures-packed, letters-packed) (omega (arith, p .value (i .0), q .value (i .1), r .value (i .2), s .value (i .3))) in
       let m : packed (valueOf a) (valueOf b) (valueOf c) (valueOf d) ≤ 0x0F0F0F0F = omega (arith, value-back a (i .0) .0, value-back b (i .1) .0, value-back c (i .2) .0, value-back d (i .3) .0) in
-      rw v record { are = λ _. i; values = λ _. refl; small = λ _. m; none = λ h. absurd (omega arith) }
+      rw (values-packed, p .value (i .0), q .value (i .1), r .value (i .2), s .value (i .3)) record { are = λ _. i; values = λ _. refl; small = λ _. m; none = λ h. absurd (omega arith) }
 
 -- nothing wraps, and nothing goes below 0
-pub no-wrap : (n : ℕ) → n < 4294967296 → (17 * letters n ≤ n) × (figures n + 10 * letters n ≤ 0xF8F8F8F8)
+pub no-wrap : (n : ℕ) → n < 4294967296 → (17 * letters n ≤ n) × (figures n + 0x06060606 + 4 * letters n ≤ 0xF8F8F8F8)
 no-wrap n h =
     let p = lane (n % 256) (omega arith) in
     let q = lane (n / 256 % 256) (omega arith) in
     let r = lane (n / 65536 % 256) (omega arith) in
     let s = lane (n / 16777216) (omega arith) in
-    (omega (arith, and-le-l n 0x40404040), rw (parts n h) (rw (figures-packed p q r s, letters-packed p q r s) (omega arith)))
+    (omega (arith, and-le-l n 0x40404040), rw (parts n h) (rw (aboves-packed p q r s) (omega (arith, p .small .0, q .small .0, r .small .0, s .small .0))))
 
-pub no-borrow : (n : ℕ) → tests n ≡ 0x30303030 → 0x30303030 ≤ figures n
-no-borrow n e = omega (arith, and-le-l (bitAnd (figures n) (figures n + 0x06060606 + 4 * letters n)) 0xF0F0F0F0, and-le-l (figures n) (figures n + 0x06060606 + 4 * letters n))
+pub few-values : (n : ℕ) → values n ≤ 0x18181818
+few-values n = omega (arith, and-le-r n 0x40404040, and-le-r n 0x0F0F0F0F)

@@ -20,9 +20,9 @@ pub fn spelling(values: u32) -> u32
 
 pub const NO_VALUES: u32 = 0xFFFFFFFF;
 
-// The values of four digits, or NO_VALUES where one of the bytes is no digit. Of digits only letters have 64, and 17 less puts 'A' where '0' is. From
-// there on stand ten figures, or six letters: just these are 48 to 63, and are so still with 6 more, or for a letter 10 more. One `&` tests both:
-// where that leads to the next sixteen, one of the two sixteens is even, and 48 is the third.
+// The values of four digits, or NO_VALUES where one of the bytes is no digit. Of digits only letters have 64; their lower half is nine less than
+// their value, and 17 less puts 'A' where '0' is. From there on stand ten figures, or six letters: just these are 48 to 63, and are so still with 6
+// more, or for a letter 10 more. One `&` tests both: where that leads to the next sixteen, one of the two sixteens is even, and 48 is the third.
 pub fn values_of(bytes: u32) -> u32
     ensures { λ r. ⌜ ((a b c d : ℕ) → a < 256 → b < 256 → c < 256 → d < 256 → bytes ≡ packed a b c d → Values a b c d r) ⌝ }
 {
@@ -33,7 +33,7 @@ pub fn values_of(bytes: u32) -> u32
     if both != 0x30303030 {
         return NO_VALUES;
     }
-    figures + 10 * letters - 0x30303030
+    (bytes & 0x0F0F0F0F) + 9 * letters
 }
 
 // The number that four values give.

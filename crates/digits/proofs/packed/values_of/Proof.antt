@@ -1,6 +1,6 @@
 -- What is tested of four bytes at once is tested of each (`four-values`, `no-values`).
 use native.Mathlib.Omega.{arith}
-use Rattle.digits.proofs.PackLaws.{lane, no-wrap, no-borrow, no-values, four-values}
+use Rattle.digits.proofs.PackLaws.{lane, no-wrap, few-values, no-values, four-values}
 use Rattle.digits.proofs.packed.values_of.Statement.{statement}
 use Rattle.digits.proofs.packed.values_of.Tie as tie
 use Rattle.digits.proofs.packed.values_of.Reads as reads
@@ -25,13 +25,10 @@ returns : tie.Need-returns
 returns c = λ p q r s hp hq hr hs e. no-values (lane p hp) (lane q hq) (lane r hr) (lane s hs) (rw e at (c .if1 .taken))
 
 mul-result : tie.Need-mul-result
-mul-result c = record { fits = omega (arith, no-wrap (c .before .args .bytes) (omega arith)) }
+mul-result c = record { fits = omega (arith, few-values (c .before .args .bytes)) }
 
 add-result : tie.Need-add-result
-add-result c = record { fits = omega (arith, no-wrap (c .before .args .bytes) (omega arith)) }
-
-sub-result : tie.Need-sub-result
-sub-result c = omega (arith, no-borrow (c .before .args .bytes) (c .if1 .left))
+add-result c = record { fits = omega (arith, few-values (c .before .args .bytes)) }
 
 returns-2 : tie.Need-returns-2
 returns-2 c = λ p q r s hp hq hr hs e. rw e (four-values (lane p hp) (lane q hq) (lane r hr) (lane s hs) (rw e at (c .if1 .left)))
@@ -48,5 +45,4 @@ values-of-spec =
     returns
     mul-result
     add-result
-    sub-result
     returns-2)

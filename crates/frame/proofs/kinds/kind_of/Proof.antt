@@ -19,7 +19,7 @@ spelt-kind-requires : tie.Need-spelt-kind-requires
 spelt-kind-requires c κs = search needs
 
 returns : tie.Need-returns
-returns c = 
+returns c =
     let high = c .before .before .digit-of in
     named-byte (c .before .before .before .args .byte) (high .result) (c .before .digit-of2 .result) (omega arith) (high .ensures) (c .before .digit-of2 .ensures) (c .spelt-kind .result) (c .spelt-kind .ensures)
 
