@@ -75,17 +75,17 @@ loop-less c = search needs
 loop-again : tie.Need-loop-again Inv-loop μ-loop
 unfolding literal
 loop-again c =
-    let a = c .before .before .before .before .before .before .before .before .before .before .before .before .args in
-    let l = c .before .before .before .before .before .before .before .before .before .loop in
-    let gate = c .before .before .before .before .before .before .before .gate-at in
-    let x = rw (c .before .before .before .before .before .of .ensures) at (c .before .before .before .before .literal-at .ensures .1) in
+    let a-at = c .before .before .before .before in
+    let gate = a-at .before .before .before in
+    let l = gate .before .before .loop in
+    let x = rw (a-at .before .of .ensures) at (a-at .literal-at .ensures .1) in
     let y = rw (c .before .before .of2 .ensures) at (c .before .literal-at2 .ensures .1) in
     let v = l .inv in (
       omega arith,
       simp length-set (v .1),
       λ n p s i g h.
           subst (λ (j : ℕ). HoldsValues (set (l .values) (1 + j + l .k) (c .gate-value .result)) (after (gateOver truths) (start (n .inputs) p) (n .gates) (l .k + 1))) i
-          (gate-stored truths IsBit s (start (n .inputs) p) (length-start (n .inputs) p) (l .k) (gate .result) _ _ _ (omega arith) (v .2 n p s i g h) (omega arith) (gate .ensures n s (omega arith)) x y (c .gate-value .ensures)),
+          (gate-stored truths IsBit s (start (n .inputs) p) (length-start (n .inputs) p) (l .k) (gate .gate-at .result) _ _ _ (omega arith) (v .2 n p s i g h) (omega arith) (gate .gate-at .ensures n s (omega arith)) x y (c .gate-value .ensures)),
     )
 
 same-length : tie.Need-same-length Inv-loop μ-loop
