@@ -2,7 +2,7 @@
 use native.Mathlib.Omega.{arith}
 use denote.Ref.{now}
 use lib.ListN.{length}
-use Rattle.netlist.proofs.ReplyLaws.{one-list, one-none}
+use Rattle.netlist.proofs.ReplyLaws.{OneList, one-list, one-none}
 use Rattle.evaluator.proofs.AnswerLaws.{text-refused, work-short, evaluated}
 use borrow.Author.Needs.{needs}
 use Rattle.evaluator.proofs.answer.Statement.{statement}
@@ -12,6 +12,10 @@ use Rattle.evaluator.proofs.answer.Lts as lts
 use Rattle.evaluator.proofs.word_of.Reads as word-of-reads
 use Rattle.netlist.proofs.One.refusal.Reads as refusal-reads
 use Rattle.netlist.proofs.read_list.Reads as read-list-reads
+
+-- what was read, at the arm that has the list's counts
+list-read : (c : tie.After-list) → OneList (now (c .before .before .before .before .before .args .text)) (c .list .given .0 .0)
+list-read c = one-list _ _ (rw (c .list .given .1) at (c .before .before .read-list .ensures))
 
 read-list-requires : tie.Need-read-list-requires
 read-list-requires c κs = search needs
@@ -32,25 +36,19 @@ returns c =
     rw (c .refusal .ensures, is) (text-refused (now (a .text)) (a .pattern) (length (now (a .work))) _ _ (one-none (now (a .text)) _ _ (rw is at (c .before .before .before .read-list .ensures))))
 
 add-nets : tie.Need-add-nets
-add-nets c =
-    let a = c .before .before .before .before .before .before .before .args in
-    omega (arith, (one-list (now (a .text)) _ (rw (c .before .before .list .given .1) at (c .before .before .before .before .read-list .ensures))) .most-inputs)
+add-nets c = omega (arith, list-read (c .before .before) .most-inputs)
 
 add-nets-2 : tie.Need-add-nets-2
 add-nets-2 c =
-    let a = c .before .before .before .before .before .before .before .before .args in
-    let o = one-list (now (a .text)) _ (rw (c .before .before .before .list .given .1) at (c .before .before .before .before .before .read-list .ensures)) in
+    let o = list-read (c .before .before .before) in
     omega (arith, o .most-inputs, o .most-gates)
 
 returns-2 : tie.Need-returns-2
-returns-2 c =
-    let a = c .before .before .before .before .before .before .before .before .before .args in
-    work-short (now (a .text)) (a .pattern) (length (now (a .work))) _ (one-list (now (a .text)) _ (rw (c .before .before .before .before .list .given .1) at (c .before .before .before .before .before .before .read-list .ensures))) (omega arith)
+returns-2 c = work-short _ _ _ _ (list-read (c .before .before .before .before)) (omega arith)
 
 word-of-requires : tie.Need-word-of-requires
 word-of-requires c κs =
-    let a = c .before .before .before .before .before .before .before .before .before .before .args in
-    let o = one-list (now (a .text)) _ (rw (c .before .before .before .before .before .list .given .1) at (c .before .before .before .before .before .before .before .read-list .ensures)) in
+    let o = list-read (c .before .before .before .before .before) in
     record { room = omega arith; inputs = o .most-inputs; gates = o .most-gates; outputs = o .most-outputs }
 
 same-length : tie.Need-same-length
@@ -58,10 +56,9 @@ same-length c = search needs
 
 returns-3 : tie.Need-returns-3
 returns-3 c =
-    let a = c .before .before .before .before .before .before .before .before .before .before .before .before .before .args in
-    let o = one-list (now (a .text)) _ (rw (c .before .before .before .before .before .before .before .before .list .given .1) at (c .before .before .before .before .before .before .before .before .before .before .read-list .ensures)) in
+    let o = list-read (c .before .before .before .before .before .before .before .before) in
     let w = c .before .before .word-of in
-    evaluated (now (a .text)) (a .pattern) (length (now (a .work))) _ o (w .result) (omega arith) (w .ensures (o .list) (o .stands) (o .inputs) (o .gates) (o .outputs))
+    evaluated _ _ _ _ o (w .result) (omega arith) (w .ensures (o .list) (o .stands) (o .inputs) (o .gates) (o .outputs))
 
 pub answer-spec : {M : Type 1} → statement M
 answer-spec =

@@ -1,5 +1,4 @@
 -- The answer is known before the bytes are cleared, and they keep their number.
-use mathlib.Core.Path.{_≡_}
 use denote.Ref.{now}
 use lib.ListN.{length}
 use Rattle.clearing.proofs.ClearLaws.{cleared}
@@ -22,10 +21,9 @@ same-length c = search needs
 
 returns : tie.Need-returns
 returns c =
-    let a = c .before .before .before .before .before .before .before .before .before .before .args in
-    let r = c .before .before .before .before .before .before .answer in
-    let e : length (r .last .1 .1 .0) ≡ length (now (a .work)) = search needs in
-    (r .ensures, cleared (r .last .1 .1 .0) _ (length (now (a .work))) e (c .before .before .clear-bytes .ensures))
+    let answered = c .before .before .before .before .before .before in
+    let r = answered .answer in
+    (r .ensures, cleared (r .last .1 .1 .0) _ (length (now (answered .before .before .before .before .args .work))) (search needs) (c .before .before .clear-bytes .ensures))
 
 pub evaluate-spec : {M : Type 1} → statement M
 evaluate-spec = tie.close (tie.spec answer-requires clear-bytes-requires same-length returns)

@@ -22,8 +22,8 @@ same-length c = search needs
 
 returns : tie.Need-returns
 returns c =
-    let a = c .before .before .before .before .before .before .before .before .before .before .before .before .args in
-    λ n s i g o. c .read-word .ensures n (a .pattern) s g o (c .before .before .before .before .run-gates .ensures n (a .pattern) s i g (c .before .before .before .before .before .before .before .before .set-inputs .ensures))
+    let ran = c .before .before .before .before in
+    λ n s i g o. c .read-word .ensures n _ s g o (ran .run-gates .ensures n _ s i g (ran .before .before .before .before .set-inputs .ensures))
 
 pub word-of-spec : {M : Type 1} → statement M
 word-of-spec =
