@@ -2,7 +2,6 @@
 use mathlib.Core.Path.{_≡_, refl}
 use native.Mathlib.Omega.{arith}
 use denote.Ref.{now}
-use lib.ListN.{length}
 use Rattle.digits.specs.Digits.{run}
 use Rattle.digits.proofs.DigitLaws.{run-end}
 use Rattle.cec_eval.proofs.PatternLaws.{other-length, other-byte, spelled}
@@ -14,31 +13,31 @@ use Rattle.cec_eval.proofs.pattern.pattern_of.Lts as lts
 use Rattle.digits.proofs.read.word_at.Reads as word-at-reads
 
 returns : tie.Need-returns
-returns c = other-length (now (c .before .before .args .digits)) (c .if1 .taken)
+returns c = other-length _ (c .if1 .taken)
 
 word-at-requires : tie.Need-word-at-requires
 word-at-requires c κs = search needs
 
 returns-2 : tie.Need-returns-2
-returns-2 c = other-byte (now (c .before .before .before .before .args .digits)) (omega arith) (λ h. omega (arith, h, c .before .word-at .ensures .stops (c .if2 .taken)))
+returns-2 c = other-byte _ (omega arith) (λ h. omega (arith, h, c .before .word-at .ensures .stops (c .if2 .taken)))
 
 word-at-requires-2 : tie.Need-word-at-requires-2
 word-at-requires-2 c κs = search needs
 
 returns-3 : tie.Need-returns-3
-returns-3 c = other-byte (now (c .before .before .before .before .before .before .args .digits)) (omega arith) (λ h. omega (arith, h, c .before .before .before .word-at .ensures .goes (omega arith) 4 refl, c .before .word-at2 .ensures .stops (c .if3 .taken)))
+returns-3 c = other-byte _ (omega arith) (λ h. omega (arith, h, c .before .before .before .word-at .ensures .goes (omega arith) 4 refl, c .before .word-at2 .ensures .stops (c .if3 .taken)))
 
 word-at-requires-3 : tie.Need-word-at-requires-3
 word-at-requires-3 c κs = search needs
 
 returns-4 : tie.Need-returns-4
-returns-4 c = other-byte (now (c .before .before .before .before .before .before .before .before .args .digits)) (omega arith) (λ h. omega (arith, h, c .before .before .before .before .before .word-at .ensures .goes (omega arith) 4 refl, c .before .before .before .word-at2 .ensures .goes (omega arith) 8 refl, c .before .word-at3 .ensures .stops (c .if4 .taken)))
+returns-4 c = other-byte _ (omega arith) (λ h. omega (arith, h, c .before .before .before .before .before .word-at .ensures .goes (omega arith) 4 refl, c .before .before .before .word-at2 .ensures .goes (omega arith) 8 refl, c .before .word-at3 .ensures .stops (c .if4 .taken)))
 
 word-at-requires-4 : tie.Need-word-at-requires-4
 word-at-requires-4 c κs = search needs
 
 returns-5 : tie.Need-returns-5
-returns-5 c = other-byte (now (c .before .before .before .before .before .before .before .before .before .before .args .digits)) (omega arith) (λ h. omega (arith, h, c .before .before .before .before .before .before .before .word-at .ensures .goes (omega arith) 4 refl, c .before .before .before .before .before .word-at2 .ensures .goes (omega arith) 8 refl, c .before .before .before .word-at3 .ensures .goes (omega arith) 12 refl, c .before .word-at4 .ensures .stops (c .if5 .taken)))
+returns-5 c = other-byte _ (omega arith) (λ h. omega (arith, h, c .before .before .before .before .before .before .before .word-at .ensures .goes (omega arith) 4 refl, c .before .before .before .before .before .word-at2 .ensures .goes (omega arith) 8 refl, c .before .before .before .word-at3 .ensures .goes (omega arith) 12 refl, c .before .word-at4 .ensures .stops (c .if5 .taken)))
 
 cast-high : tie.Need-cast-high
 cast-high c = search needs
@@ -72,14 +71,15 @@ add-t11 c = search needs
 
 returns-6 : tie.Need-returns-6
 returns-6 c =
-    let l = now (c .before .before .before .before .before .before .before .before .before .before .args .digits) in
-    let w = c .before .before .before .before .before .before .before .word-at .ensures in
-    let x = c .before .before .before .before .before .word-at2 .ensures in
-    let y = c .before .before .before .word-at3 .ensures in
+    let third = c .before .before .before in
+    let first = third .before .before .before .before in
+    let l = now (first .before .before .before .args .digits) in
+    let w = first .word-at .ensures in
+    let x = third .before .before .word-at2 .ensures in
+    let y = third .word-at3 .ensures in
     let z = c .before .word-at4 .ensures in
-    let e : length l ≡ 16 = omega arith in
     let all : run l ≡ 16 = omega (arith, w .goes (omega arith) 4 refl, x .goes (omega arith) 8 refl, y .goes (omega arith) 12 refl, z .goes (omega arith) 16 refl, run-end l 16 (omega arith)) in
-    spelled l e all _ _ _ _ (w .number (omega arith)) (x .number (omega arith)) (y .number (omega arith)) (z .number (omega arith))
+    spelled l (omega arith) all _ _ _ _ (w .number (omega arith)) (x .number (omega arith)) (y .number (omega arith)) (z .number (omega arith))
 
 pub pattern-of-spec : {M : Type 1} → statement M
 pattern-of-spec =
