@@ -1,7 +1,7 @@
 -- The lists are refused, or the answer to them is the answer to the text (`AnswerLaws`).
 use denote.Ref.{now}
 use lib.ListN.{length}
-use Rattle.netlist.proofs.ReplyLaws.{two-lists}
+use Rattle.netlist.proofs.ReplyLaws.{TwoLists, two-lists}
 use Rattle.miter.proofs.ListLaws.{lists-of}
 use Rattle.engine.proofs.AnswerLaws.{unread, answered}
 use borrow.Author.Needs.{needs}
@@ -12,6 +12,10 @@ use Rattle.engine.proofs.answer.Lts as lts
 use Rattle.netlist.proofs.Both.refusal.Reads as refusal-reads
 use Rattle.engine.proofs.folded.Reads as folded-reads
 use Rattle.netlist.proofs.read_lists.Reads as read-lists-reads
+
+-- what was read, at the arm that has the pair
+lists-read : (c : tie.After-lists) → TwoLists (now (c .before .before .before .before .before .before .args .text)) (c .lists .given .0 .0)
+lists-read c = two-lists _ _ (rw (c .lists .given .1) at (c .before .before .read-lists .ensures))
 
 read-lists-requires : tie.Need-read-lists-requires
 read-lists-requires c κs = search needs
@@ -32,8 +36,7 @@ returns c =
     rw (c .refusal .ensures) (unread (now (a .text)) (length (now (a .proof))) (length (now (a .work))) (got .result) (got .ensures) (c .before .before .match .keys2))
 
 folded-requires : tie.Need-folded-requires
-folded-requires c κs =
-    lists-of (two-lists (now (c .before .before .before .before .before .before .before .before .before .args .text)) _ (rw (c .before .before .before .lists .given .1) at (c .before .before .before .before .before .read-lists .ensures)) .both)
+folded-requires c κs = lists-of (lists-read (c .before .before .before) .both)
 
 same-length : tie.Need-same-length
 same-length c = search needs
@@ -43,10 +46,9 @@ same-length-2 c = search needs
 
 returns-2 : tie.Need-returns-2
 returns-2 c =
-    let a = c .before .before .before .before .before .before .before .before .before .before .before .before .before .before .args in
-    let f = two-lists (now (a .text)) _ (rw (c .before .before .before .before .before .before .before .before .lists .given .1) at (c .before .before .before .before .before .before .before .before .before .before .read-lists .ensures)) in
+    let f = lists-read (c .before .before .before .before .before .before .before .before) in
     let d = c .before .before .before .before .folded in
-    answered (now (a .text)) (length (now (a .proof))) (length (now (a .work))) _ f _ (d .result) (d .ensures (lists-of (f .both)))
+    answered _ _ _ _ f _ (d .result) (d .ensures (lists-of (f .both)))
 
 pub answer-spec : {M : Type 1} → statement M
 answer-spec =

@@ -55,9 +55,9 @@ same-length c = search needs
 
 returns-3 : tie.Need-returns-3
 returns-3 c w =
-    let f = c .before .before .before .before .before .fold in
+    let folded = c .before .before .before .before .before in
     let k = c .before .first-apart in
-    due-18 w _ _ (c .before .before .before .before .before .before .before .before .before .if1 .left) (c .before .before .before .before .before .before .before .if2 .left) (k .result) (k .ensures w (f .ensures w)) (c .if3 .taken)
+    due-18 w _ _ (folded .before .before .before .before .if1 .left) (folded .before .before .if2 .left) (k .result) (k .ensures w (folded .fold .ensures w)) (c .if3 .taken)
 
 clear-bytes-requires : tie.Need-clear-bytes-requires
 clear-bytes-requires c κs = search needs
@@ -73,14 +73,14 @@ same-length-3 c = search needs
 
 returns-4 : tie.Need-returns-4
 returns-4 c w =
-    let f = c .before .before .before .before .before .before .before .before .before .before .before .before .before .before .before .before .fold in
-    let k = c .before .before .before .before .before .before .before .before .before .before .before .before .first-apart in
-    let e = c .before .before .before .before .emit in
-    let h = f .ensures w in
-    let a = c .before .before .before .before .before .before .before .before .before .before .before .before .before .before .before .before .before .before .before .before .before .before .before .before .before .before .args in
-    let z = cleared (now (a .proof)) _ (length (now (a .proof))) refl (c .before .before .before .before .before .before .before .before .before .clear-bytes .ensures) in
-    let o = e .ensures w h (none-written (length (now (a .proof))) z) in
-    (due-proof w _ _ (c .before .before .before .before .before .before .before .before .before .before .before .before .before .before .before .before .before .before .before .before .if1 .left) (c .before .before .before .before .before .before .before .before .before .before .before .before .before .before .before .before .before .before .if2 .left) (k .result) (k .ensures w h) (c .before .before .before .before .before .before .before .before .before .before .before .if3 .left), o .0, o .1)
+    let cleared-at = c .before .before .before .before .before .before .before .before .before in
+    let apart = cleared-at .before .before .before in
+    let folded = apart .before .before .before .before in
+    let enough = folded .before .before .before .before in
+    let proof = now (enough .before .before .before .before .before .before .args .proof) in
+    let h = folded .fold .ensures w in
+    let o = c .before .before .before .before .emit .ensures w h (none-written (length proof) (cleared proof _ (length proof) refl (cleared-at .clear-bytes .ensures))) in
+    (due-proof w _ _ (enough .if1 .left) (folded .before .before .if2 .left) _ (apart .first-apart .ensures w h) (cleared-at .before .before .if3 .left), o .0, o .1)
 
 pub folded-spec : {M : Type 1} → statement M
 folded-spec =

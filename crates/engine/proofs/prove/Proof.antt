@@ -1,5 +1,4 @@
 -- The promise from the answer: the proof's lines stay, or zeros come everywhere (`AnswerLaws`).
-use mathlib.Core.Path.{_≡_}
 use denote.Ref.{now}
 use lib.ListN.{length}
 use Rattle.clearing.proofs.ClearLaws.{cleared}
@@ -36,13 +35,13 @@ same-length-2 c = search needs
 
 returns : tie.Need-returns
 returns c =
-    let a = c .before .before .before .before .before .before .before .before .before .before .before .before .before .before .before .before .before .args in
-    let w = c .before .before .before .before .before .before .before .before .before .before .before .answer in
+    let cleared-at = c .before .before .before .before .before in
+    let answered = cleared-at .before .before .before .before .before .before in
+    let a = answered .before .before .before .before .before .before .args in
+    let w = answered .answer in
     let h = rw (c .before .answered .given .1) at (w .ensures) in
-    let l : length (w .last .1 .1 .0) ≡ length (now (a .work)) = search needs in
-    let m : length (w .last .1 .0) ≡ length (now (a .proof)) = search needs in
-    let z = cleared (w .last .1 .1 .0) _ (length (now (a .work))) l (c .before .before .before .before .before .clear-numbers .ensures) in
-    keeps-proof (now (a .text)) (length (now (a .proof))) (length (now (a .work))) z (h .0) _ (h .1) (h .2) m (h .3)
+    let z = cleared (w .last .1 .1 .0) _ (length (now (a .work))) (search needs) (cleared-at .clear-numbers .ensures) in
+    keeps-proof (now (a .text)) (length (now (a .proof))) (length (now (a .work))) z (h .0) _ (h .1) (h .2) (search needs) (h .3)
 
 same-length-3 : tie.Need-same-length-3
 same-length-3 c = search needs
@@ -52,13 +51,13 @@ same-length-4 c = search needs
 
 returns-2 : tie.Need-returns-2
 returns-2 c =
-    let a = c .before .before .before .before .before .before .before .before .before .before .before .before .before .before .before .before .before .before .before .before .before .args in
-    let w = c .before .before .before .before .before .before .before .before .before .before .before .before .before .before .before .answer in
+    let cleared-at = c .before .before .before .before .before .before .before .before .before in
+    let answered = cleared-at .before .before .before .before .before .before in
+    let a = answered .before .before .before .before .before .before .args in
+    let w = answered .answer in
     let h = rw (c .before .before .before .before .before .answered2 .given .1) at (w .ensures) in
-    let l : length (w .last .1 .1 .0) ≡ length (now (a .work)) = search needs in
-    let m : length (w .last .1 .0) ≡ length (now (a .proof)) = search needs in
-    let z = cleared (w .last .1 .1 .0) _ (length (now (a .work))) l (c .before .before .before .before .before .before .before .before .before .clear-numbers .ensures) in
-    keeps-refusal (now (a .text)) (length (now (a .proof))) (length (now (a .work))) z _ _ h (cleared (w .last .1 .0) _ (length (now (a .proof))) m (c .before .before .clear-bytes .ensures))
+    let z = cleared (w .last .1 .1 .0) _ (length (now (a .work))) (search needs) (cleared-at .clear-numbers .ensures) in
+    keeps-refusal (now (a .text)) (length (now (a .proof))) (length (now (a .work))) z _ _ h (cleared (w .last .1 .0) _ (length (now (a .proof))) (search needs) (c .before .before .clear-bytes .ensures))
 
 pub prove-spec : {M : Type 1} → statement M
 prove-spec =
