@@ -1,5 +1,4 @@
 -- The verdict's clauses stay and zeros come behind them, or zeros come everywhere; acceptance is sound by `laws/Soundness`.
-use mathlib.Core.Path.{_≡_}
 use native.Mathlib.Omega.{arith}
 use denote.Ref.{now}
 use lib.ListN.{length}
@@ -22,7 +21,8 @@ enum-known-answered c = search needs
 
 mul-clear-numbers : tie.Need-mul-clear-numbers
 mul-clear-numbers c =
-    let h = rw (c .before .before .before .answered .given .1) at (c .before .before .before .before .before .before .before .verdict .ensures) in
+    let answered = c .before .before .before in
+    let h = rw (answered .answered .given .1) at (answered .before .before .before .before .verdict .ensures) in
     omega (arith, h .3)
 
 clear-numbers-requires : tie.Need-clear-numbers-requires
@@ -39,13 +39,13 @@ same-length c = search needs
 
 returns : tie.Need-returns
 returns c =
-    let a = c .before .before .before .before .before .before .before .before .before .before .before .before .before .before .args in
-    let v = c .before .before .before .before .before .before .before .before .before .before .verdict in
-    let h = rw (c .before .before .before .before .before .before .answered .given .1) at (v .ensures) in
-    let n = length (now (a .store)) in
-    let l : length (v .last .1 .0) ≡ length (now (a .store)) = search needs in (
+    let answered = c .before .before .before .before .before .before in
+    let decided = answered .before .before .before .before in
+    let v = decided .verdict in
+    let h = rw (answered .answered .given .1) at (v .ensures) in
+    let n = length (now (decided .before .before .before .before .args .store)) in (
       rw (h .1, h .2 .steps, h .2 .clauses),
-      (rw (h .1) (kept (v .last .1 .0) _ _ (h .0) n (h .2) l (c .before .before .clear-numbers .ensures)), sound (now (a .text)) n (h .0) (h .1)),
+      (rw (h .1) (kept (v .last .1 .0) _ _ (h .0) n (h .2) (search needs) (c .before .before .clear-numbers .ensures)), sound _ n (h .0) (h .1)),
     )
 
 same-length-2 : tie.Need-same-length-2
@@ -53,12 +53,11 @@ same-length-2 c = search needs
 
 returns-2 : tie.Need-returns-2
 returns-2 c =
-    let a = c .before .before .before .before .before .before .before .before .before .before .before .before .before .args in
-    let v = c .before .before .before .before .before .before .before .before .before .verdict in
-    let h = rw (c .before .before .before .before .before .answered2 .given .1) at (v .ensures) in
-    let n = length (now (a .store)) in
-    let l : length (v .last .1 .0) ≡ length (now (a .store)) = search needs in
-    (rw h, (rw h (cleared (v .last .1 .0) _ n l (c .before .before .clear-numbers2 .ensures)), tt))
+    let answered = c .before .before .before .before .before in
+    let decided = answered .before .before .before .before in
+    let v = decided .verdict in
+    let h = rw (answered .answered2 .given .1) at (v .ensures) in
+    (rw h, (rw h (cleared (v .last .1 .0) _ (length (now (decided .before .before .before .before .args .store))) (search needs) (c .before .before .clear-numbers2 .ensures)), tt))
 
 pub check-spec : {M : Type 1} → statement M
 check-spec =

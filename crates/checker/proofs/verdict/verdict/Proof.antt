@@ -4,7 +4,10 @@ use native.Mathlib.Omega.{arith}
 use borrow.Author.Tests.{not-true, not-false}
 use denote.Ref.{now}
 use lib.ListN.{length}
-use Rattle.netlist.proofs.ReplyLaws.{both-lists}
+use Rattle.netlist.proofs.ReplyLaws.{BothLists, both-lists}
+use Rattle.steps.specs.declared.Stepped.the-variants.{Done}
+use Rattle.steps.specs.Progress.{Says}
+use Rattle.miter.specs.Miters.{beginOf}
 use Rattle.miter.proofs.ListLaws.{lists-of}
 use Rattle.checker.proofs.VerdictLaws.{capacity-fits, unread, begin-refused, replay-refused, not-empty, accepted}
 use borrow.Author.Needs.{needs}
@@ -17,6 +20,19 @@ use Rattle.checker.proofs.replay.replay.Reads as replay-reads
 use Rattle.checker.proofs.verdict.capacity.Reads as capacity-reads
 use Rattle.netlist.proofs.Both.refusal.Reads as refusal-reads
 use Rattle.netlist.proofs.read_both.Reads as read-both-reads
+
+-- what was read, at the arm that has the pair
+lists-read : (c : tie.After-lists) → BothLists (now (c .before .before .before .before .before .before .args .text)) (c .lists .given .0 .0)
+lists-read c = both-lists _ _ (rw (c .lists .given .1) at (c .before .before .read-both .ensures))
+
+-- the state before the first step, at the arm that has it
+begun-as : (c : tie.After-begun)
+    → let begun = c .before .before .before .before in
+    let lists = begun .before .before .before in
+    let room = lists .before .before .before .capacity .result in
+    let read = lists-read lists .read .lists in
+    Says room (beginOf room (read .left) (read .right)) (begun .begin .last .1 .1 .0) (Done (c .begun .given .0 .0))
+begun-as c = let begun = c .before .before .before .before in rw (c .begun .given .1) at (begun .begin .ensures (lists-of (lists-read (begun .before .before .before))))
 
 capacity-requires : tie.Need-capacity-requires
 capacity-requires c κs = search needs
@@ -41,11 +57,10 @@ returns c =
 
 begin-requires : tie.Need-begin-requires
 begin-requires c κs =
-    let n = length (now (c .before .before .before .before .before .before .before .before .args .store)) in
-    let b = both-lists (now (c .before .before .before .before .before .before .before .before .args .text)) _ (rw (c .before .before .lists .given .1) at (c .before .before .before .before .read-both .ensures)) in
-    let room = c .before .before .before .before .before .capacity in
-    let f = capacity-fits n in
-    (lists-of b, omega (arith, room .ensures), omega (arith, room .ensures))
+    let lists = c .before .before in
+    let room = lists .before .before .before .capacity in
+    let f = capacity-fits (length (now (lists .before .before .before .before .before .before .args .store))) in
+    (lists-of (lists-read lists), omega (arith, room .ensures), omega (arith, room .ensures))
 
 enum-known-begun : tie.Need-enum-known-begun
 enum-known-begun c = search needs
@@ -58,19 +73,14 @@ same-length c = search needs
 
 returns-2 : tie.Need-returns-2
 returns-2 c =
-    let n = length (now (c .before .before .before .before .before .before .before .before .before .before .before .before .before .args .store)) in
-    let b = both-lists (now (c .before .before .before .before .before .before .before .before .before .before .before .before .before .args .text)) _ (rw (c .before .before .before .before .before .before .before .lists .given .1) at (c .before .before .before .before .before .before .before .before .before .read-both .ensures)) in
-    let room = c .before .before .before .before .before .before .before .before .before .before .capacity in
-    let told = c .enum-told2 .given in
-    rw (told .1) (begin-refused b n (room .result) (room .ensures) _ _ (rw (told .1) at (c .before .before .before .before .begin .ensures (lists-of b))))
+    let begun = c .before .before .before .before in
+    let lists = begun .before .before .before in
+    let b = lists-read lists in
+    let told = c .enum-told2 .given .1 in
+    rw told (begin-refused b _ _ (lists .before .before .before .capacity .ensures) _ _ (rw told at (begun .begin .ensures (lists-of b))))
 
 replay-requires : tie.Need-replay-requires
-replay-requires c κs =
-    let n = length (now (c .before .before .before .before .before .before .before .before .before .before .before .before .before .before .before .args .store)) in
-    let b = both-lists (now (c .before .before .before .before .before .before .before .before .before .before .before .before .before .before .before .args .text)) _ (rw (c .before .before .before .before .before .before .before .before .before .lists .given .1) at (c .before .before .before .before .before .before .before .before .before .before .before .read-both .ensures)) in
-    let room = c .before .before .before .before .before .before .before .before .before .before .before .before .capacity in
-    let begun = rw (c .before .before .begun .given .1) at (c .before .before .before .before .before .before .begin .ensures (lists-of b)) in
-    (b .inside, begun .3)
+replay-requires c κs = let begun = c .before .before in (lists-read (begun .before .before .before .before .before .before .before) .inside, begun-as begun .3)
 
 enum-known-replayed : tie.Need-enum-known-replayed
 enum-known-replayed c = search needs
@@ -83,36 +93,35 @@ same-length-2 c = search needs
 
 returns-3 : tie.Need-returns-3
 returns-3 c =
-    let n = length (now (c .before .before .before .before .before .before .before .before .before .before .before .before .before .before .before .before .before .before .before .before .args .store)) in
-    let b = both-lists (now (c .before .before .before .before .before .before .before .before .before .before .before .before .before .before .before .before .before .before .before .before .args .text)) _ (rw (c .before .before .before .before .before .before .before .before .before .before .before .before .before .before .lists .given .1) at (c .before .before .before .before .before .before .before .before .before .before .before .before .before .before .before .before .read-both .ensures)) in
-    let room = c .before .before .before .before .before .before .before .before .before .before .before .before .before .before .before .before .before .capacity in
-    let begun = rw (c .before .before .before .before .before .before .before .begun .given .1) at (c .before .before .before .before .before .before .before .before .before .before .before .begin .ensures (lists-of b)) in
-    let told = c .enum-told3 .given in
-    rw (told .1) (replay-refused b n (room .result) (room .ensures) (begun .0) (begun .1) _ _ (rw (told .1) at (c .before .before .before .before .replay .ensures (begun .0) (begun .2))))
+    let begun = c .before .before .before .before .before .before .before in
+    let lists = begun .before .before .before .before .before .before .before in
+    let s = begun-as begun in
+    let told = c .enum-told3 .given .1 in
+    rw told (replay-refused (lists-read lists) _ _ (lists .before .before .before .capacity .ensures) (s .0) (s .1) _ _ (rw told at (c .before .before .before .before .replay .ensures (s .0) (s .2))))
 
 same-length-3 : tie.Need-same-length-3
 same-length-3 c = search needs
 
 returns-4 : tie.Need-returns-4
 returns-4 c =
-    let n = length (now (c .before .before .before .before .before .before .before .before .before .before .before .before .before .before .before .before .before .before .before .before .before .before .before .args .store)) in
-    let b = both-lists (now (c .before .before .before .before .before .before .before .before .before .before .before .before .before .before .before .before .before .before .before .before .before .before .before .args .text)) _ (rw (c .before .before .before .before .before .before .before .before .before .before .before .before .before .before .before .before .before .lists .given .1) at (c .before .before .before .before .before .before .before .before .before .before .before .before .before .before .before .before .before .before .before .read-both .ensures)) in
-    let room = c .before .before .before .before .before .before .before .before .before .before .before .before .before .before .before .before .before .before .before .before .capacity in
-    let begun = rw (c .before .before .before .before .before .before .before .before .before .before .begun .given .1) at (c .before .before .before .before .before .before .before .before .before .before .before .before .before .before .begin .ensures (lists-of b)) in
-    let end = rw (c .before .before .before .replayed .given .1) at (c .before .before .before .before .before .before .before .replay .ensures (begun .0) (begun .2)) in
-    not-empty b n (room .result) (room .ensures) (begun .0) (begun .1) (end .0) (end .1) (end .2 .empty ∙ not-true _ (c .if1 .taken))
+    let replayed = c .before .before .before in
+    let begun = replayed .before .before .before .before .before .before .before in
+    let lists = begun .before .before .before .before .before .before .before in
+    let s = begun-as begun in
+    let end = rw (replayed .replayed .given .1) at (replayed .before .before .before .before .replay .ensures (s .0) (s .2)) in
+    not-empty (lists-read lists) _ _ (lists .before .before .before .capacity .ensures) (s .0) (s .1) (end .0) (end .1) (end .2 .empty ∙ not-true _ (c .if1 .taken))
 
 same-length-4 : tie.Need-same-length-4
 same-length-4 c = search needs
 
 returns-5 : tie.Need-returns-5
 returns-5 c =
-    let n = length (now (c .before .before .before .before .before .before .before .before .before .before .before .before .before .before .before .before .before .before .before .before .before .before .before .args .store)) in
-    let b = both-lists (now (c .before .before .before .before .before .before .before .before .before .before .before .before .before .before .before .before .before .before .before .before .before .before .before .args .text)) _ (rw (c .before .before .before .before .before .before .before .before .before .before .before .before .before .before .before .before .before .lists .given .1) at (c .before .before .before .before .before .before .before .before .before .before .before .before .before .before .before .before .before .before .before .read-both .ensures)) in
-    let room = c .before .before .before .before .before .before .before .before .before .before .before .before .before .before .before .before .before .before .before .before .capacity in
-    let begun = rw (c .before .before .before .before .before .before .before .before .before .before .begun .given .1) at (c .before .before .before .before .before .before .before .before .before .before .before .before .before .before .begin .ensures (lists-of b)) in
-    let end = rw (c .before .before .before .replayed .given .1) at (c .before .before .before .before .before .before .before .replay .ensures (begun .0) (begun .2)) in
-    (end .0, accepted b n (room .result) (room .ensures) (begun .0) (begun .1) (end .0) (end .1) (end .2 .empty ∙ not-false _ (c .if1 .left)), end .2, omega (arith, end .3 .clauses, end .3 .most))
+    let replayed = c .before .before .before in
+    let begun = replayed .before .before .before .before .before .before .before in
+    let lists = begun .before .before .before .before .before .before .before in
+    let s = begun-as begun in
+    let end = rw (replayed .replayed .given .1) at (replayed .before .before .before .before .replay .ensures (s .0) (s .2)) in
+    (end .0, accepted (lists-read lists) _ _ (lists .before .before .before .capacity .ensures) (s .0) (s .1) (end .0) (end .1) (end .2 .empty ∙ not-false _ (c .if1 .left)), end .2, omega (arith, end .3 .clauses, end .3 .most))
 
 pub verdict-spec : {M : Type 1} → statement M
 verdict-spec =
