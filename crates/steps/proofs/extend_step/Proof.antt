@@ -48,30 +48,31 @@ clause-count-requires c κs = search needs
 
 add-if4 : tie.Need-add-if4
 add-if4 c =
-    let a = c .before .before .before .before .before .before .before .before .before .args in
-    let w = c .before .before .before .before .before .before .before .before .before .pre in
-    omega (arith, c .clause-count .ensures 0 (a .x) (a .y), few (a .op) 0 (a .x) (a .y) .1, w .clauses, w .most)
+    let start = c .before .before .before .before .before .before .before .before .before in
+    let a = start .args in
+    omega (arith, c .clause-count .ensures 0 (a .x) (a .y), few (a .op) 0 (a .x) (a .y) .1, start .pre .clauses, start .pre .most)
 
 returns-4 : tie.Need-returns-4
 returns-4 c s t =
-    let a = c .before .before .before .before .before .before .before .before .before .before .args in
+    let total = c .before in
+    let a = total .before .before .before .before .before .before .before .before .before .args in
     no-space (a .room) (a .line) s (a .op) (a .x) (a .y) (omega (arith, t .next)) (omega (arith, t .next)) (omega (arith, t .next))
-    (omega (arith, t .clauses, c .before .clause-count .ensures (positive (s .next)) (a .x) (a .y)))
+    (omega (arith, t .clauses, total .clause-count .ensures (positive (s .next)) (a .x) (a .y)))
 
 positive-requires : tie.Need-positive-requires
 positive-requires c κs = search needs
 
 push-gate-requires : tie.Need-push-gate-requires
 push-gate-requires c κs =
-    let w = c .before .before .before .before .before .before .before .before .before .before .before .before .pre in
-    let left = c .before .before .before .before .before .before .before .before .before .before .of in
-    let right = c .before .before .before .before .before .before .before .before .before .of2 in
+    let right = c .before .before .before .before .before .before .before .before .before in
+    let left = right .before in
+    let w = left .before .before .pre in
     record {
-      numbers-for-all = omega (arith, w .numbers-for-all, c .before .before .before .clause-count .ensures (c .before .positive .result .code) (left .result .code) (right .result .code));
+      numbers-for-all = omega (arith, w .numbers-for-all, c .before .before .before .clause-count .ensures (c .before .positive .result .code) (left .of .result .code) (right .of2 .result .code));
       few = omega (arith, w .most, w .clauses);
       low-n = omega (arith, c .before .positive .ensures);
-      low-x = omega (arith, left .ensures);
-      low-y = omega (arith, right .ensures);
+      low-x = omega (arith, left .of .ensures, c);
+      low-y = omega (arith, right .of2 .ensures);
     }
 
 add-t15 : tie.Need-add-t15
@@ -85,26 +86,28 @@ same-length c = search needs
 
 returns-5 : tie.Need-returns-5
 returns-5 c s t =
-    let a = c .before .before .before .before .before .before .before .before .before .before .before .before .before .before .before .before .args in
-    let w = c .before .before .before .before .before .before .before .before .before .before .before .before .before .before .before .before .pre in
     let g = c .before .before .before .push-gate in
-    let n = c .before .before .before .before .before .positive in
-    let e = rw (c .before .before .before .before .before .before .before .before .before .before .before .before .before .before .of .ensures, c .before .before .before .before .before .before .before .before .before .before .before .before .before .of2 .ensures) at (g .ensures) in
-    let k = c .before .before .before .before .before .before .before .clause-count .ensures (n .result .code) (a .x) (a .y) in
-    let k′ = c .before .before .before .before .before .before .before .clause-count .ensures (positive (s .next)) (a .x) (a .y) in
+    let n = c .before .before .before .before .before in
+    let total = n .before .before in
+    let right = total .before .before .before .before .before .before in
+    let start = right .before .before .before in
+    let a = start .args in
+    let e = rw (right .before .of .ensures, right .of2 .ensures) at (g .ensures) in
+    let k = total .clause-count .ensures (n .positive .result .code) (a .x) (a .y) in
+    let k′ = total .clause-count .ensures (positive (s .next)) (a .x) (a .y) in
     let l : length (g .last .0) ≡ length (now (a .store)) = search needs in
-    let q = extended-tracks (a .op) (a .x) (a .y) (n .result .code) (g .result) t (n .ensures) (e .0) (e .1) in (
+    let q = extended-tracks (a .op) (a .x) (a .y) (n .positive .result .code) (g .result) t (n .positive .ensures) (e .0) (e .1) in (
       extended (a .op) (a .x) (a .y) s,
-      extends (a .room) (a .line) s (a .op) (a .x) (a .y) (omega (arith, t .next)) (omega (arith, t .next)) (omega (arith, t .next)) (omega (arith, t .clauses)),
+      extends (a .room) (a .line) s (a .op) (a .x) (a .y) (omega (arith, t .next, total)) (omega (arith, t .next, total)) (omega (arith, t .next, total)) (omega (arith, t .clauses, n)),
       q,
       record {
         state = extended (a .op) (a .x) (a .y) s;
         tracks = q;
-        numbers-for-all = omega (arith, l, w .numbers-for-all);
-        most = w .most;
-        clauses = omega (arith, w .clauses);
-        steps = omega (arith, w .steps, few (a .op) (n .result .code) (a .x) (a .y) .0);
-        next = omega (arith, w .next);
+        numbers-for-all = omega (arith, l, start .pre .numbers-for-all);
+        most = start .pre .most;
+        clauses = omega (arith, start .pre .clauses);
+        steps = omega (arith, start .pre .steps, few (a .op) (n .positive .result .code) (a .x) (a .y) .0);
+        next = omega (arith, start .pre .next);
       },
     )
 

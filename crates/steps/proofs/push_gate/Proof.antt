@@ -64,19 +64,19 @@ loop-less c = search needs
 
 loop-again : tie.Need-loop-again Inv-loop μ-loop
 loop-again c =
-    let a = c .before .before .before .before .before .before .before .before .before .args in
-    let r = c .before .before .before .before .before .before .before .before .before .pre in
-    let k = c .before .before .before .before .before .before .before .clause-count .ensures (a .n .code) (a .x .code) (a .y .code) in
-    let l = c .before .before .before .before .before .before .loop in
-    let g = c .before .before .before .gate-clause .ensures in
+    let looped = c .before .before .before .before .before .before in
+    let l = looped .loop in
+    let start = looped .before .before .before in
+    let a = start .args in
+    let k = looped .before .clause-count .ensures (a .n .code) (a .x .code) (a .y .code) in
     let w = c .before .before .save in (
       omega arith,
       rw (w .ensures, length-sets) (l .inv .1),
       λ cs h n.
           subst (λ (t : List ℕ). Held t (cs ++ take (l .j + 1) (clausesOf (a .op) (a .n .code) (a .x .code) (a .y .code)))) (sym (w .ensures))
           (gate-saved (l .store) cs (clausesOf (a .op) (a .n .code) (a .x .code) (a .y .code)) (l .j) _ _
-          (gate-proper (a .op) (a .n .code) (a .x .code) (a .y .code) (r .low-n) (r .low-x) (r .low-y)) (omega arith) (g .same) (omega arith)
-          (omega (arith, r .numbers-for-all, l .inv .1)) (l .inv .2 cs h n)),
+          (gate-proper (a .op) (a .n .code) (a .x .code) (a .y .code) (start .pre .low-n) (start .pre .low-x) (start .pre .low-y)) (omega arith) (c .before .before .before .gate-clause .ensures .same) (omega arith)
+          (omega (arith, start .pre .numbers-for-all, l .inv .1)) (l .inv .2 cs h n)),
     )
 
 add-result : tie.Need-add-result Inv-loop μ-loop

@@ -36,8 +36,9 @@ same-length c = search needs
 
 returns-2 : tie.Need-returns-2
 returns-2 c s t =
-    let a = c .before .before .before .before .before .before .before .before .args in
-    let w = c .before .before .before .before .before .before .before .before .pre in
+    let start = c .before .before .before .before .before .before .before .before in
+    let a = start .args in
+    let w = start .pre in
     let r = literalsOf (a .resolvent) in
     let g = c .before .before .before .before .save-resolvent in
     let h : Proper r = record { rising = w .2; width = omega (arith, w .1 .size, w .1 .room) } in

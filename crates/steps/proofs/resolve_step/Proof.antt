@@ -79,35 +79,38 @@ enum-told-3 c = search needs
 
 push-resolvent-requires : tie.Need-push-resolvent-requires
 push-resolvent-requires c κs =
-    let a = c .before .before .before .before .before .before .before .before .before .before .args in
-    let w = c .before .before .before .before .before .before .before .before .before .before .pre in
-    let r = answers (c .before .before .before) (w .state) (w .tracks) in
-    (w, r .held, resolvent-rising (a .v) _ _ _ (rising-at (a .a) (w .tracks) (first-number (c .before .before .before .before))) (rising-at (a .b) (w .tracks) (second-number (c .before .before .before .before))) r (c .before .enum-told3 .given .1))
+    let resolved = c .before .before .before in
+    let w = resolved .before .before .before .before .before .before .before .pre in
+    let r = answers resolved (w .state) (w .tracks) in
+    (w, r .held, resolvent-rising _ _ _ _ (rising-at _ (w .tracks) (first-number (resolved .before))) (rising-at _ (w .tracks) (second-number (resolved .before))) r (c .before .enum-told3 .given .1))
 
 same-length : tie.Need-same-length
 same-length c = search needs
 
 returns-3 : tie.Need-returns-3
 returns-3 c s t =
-    let a = c .before .before .before .before .before .before .before .before .before .args in
-    pivot-missing (a .room) (a .line) s (a .a) (a .b) (a .v) (rw (t .clauses) (first-number (c .before .before .before))) (rw (t .clauses) (second-number (c .before .before .before))) _ (answers (c .before .before) s t) (c .enum-told .given .1)
+    let resolved = c .before .before in
+    let a = resolved .before .before .before .before .before .before .before .args in
+    pivot-missing (a .room) (a .line) s (a .a) (a .b) (a .v) (rw (t .clauses) (first-number (resolved .before))) (rw (t .clauses) (second-number (resolved .before))) _ (answers resolved s t) (c .enum-told .given .1)
 
 same-length-2 : tie.Need-same-length-2
 same-length-2 c = search needs
 
 returns-4 : tie.Need-returns-4
 returns-4 c s t =
-    let a = c .before .before .before .before .before .before .before .before .before .args in
-    too-wide (a .room) (a .line) s (a .a) (a .b) (a .v) (rw (t .clauses) (first-number (c .before .before .before))) (rw (t .clauses) (second-number (c .before .before .before))) _ (answers (c .before .before) s t) (c .enum-told2 .given .1)
+    let resolved = c .before .before in
+    let a = resolved .before .before .before .before .before .before .before .args in
+    too-wide (a .room) (a .line) s (a .a) (a .b) (a .v) (rw (t .clauses) (first-number (resolved .before))) (rw (t .clauses) (second-number (resolved .before))) _ (answers resolved s t) (c .enum-told2 .given .1)
 
 same-length-3 : tie.Need-same-length-3
 same-length-3 c = search needs
 
 returns-5 : tie.Need-returns-5
 returns-5 c s t =
-    let a = c .before .before .before .before .before .before .before .before .before .before .before .before .before .args in
+    let resolved = c .before .before .before .before .before .before in
+    let a = resolved .before .before .before .before .before .before .before .args in
     rw (
-    resolvent-added (a .room) (a .line) s (a .a) (a .b) (a .v) (rw (t .clauses) (first-number (c .before .before .before .before .before .before .before))) (rw (t .clauses) (second-number (c .before .before .before .before .before .before .before))) _ (answers (c .before .before .before .before .before .before) s t)
+    resolvent-added (a .room) (a .line) s (a .a) (a .b) (a .v) (rw (t .clauses) (first-number (resolved .before))) (rw (t .clauses) (second-number (resolved .before))) _ (answers resolved s t)
     (c .before .before .before .before .enum-told3 .given .1)
     ) (c .before .before .push-resolvent .ensures s t)
 
