@@ -29,12 +29,12 @@ put-unit-requires c κs = search needs
 
 write-variables-requires : tie.Need-write-variables-requires
 write-variables-requires c κs =
-    let start = c .before .before .before .before .before .before .before .before .before in
-    let unit = c .before .before .before .put-unit in
-    let long : length (unit .last .0) ≡ length (now (start .args .store)) = search needs in (
+    let unit = c .before .before .before in
+    let start = unit .before .before .before .before .before .before in
+    let long : length (unit .put-unit .last .0) ≡ length (now (start .args .store)) = search needs in (
       start .pre .0,
       record { numbers-for-all = omega (arith, long, start .pre .1); most = start .pre .2; some = omega arith },
-      first-held (unit .last .0) _ (c .before .before .before .before .negative .ensures) (unit .ensures [] (none-held (now (start .args .store))) refl),
+      first-held (unit .put-unit .last .0) _ (unit .before .negative .ensures) (unit .put-unit .ensures [] (none-held (now (start .args .store))) refl),
     )
 
 enum-known-filled : tie.Need-enum-known-filled
@@ -47,8 +47,7 @@ same-length : tie.Need-same-length
 same-length c = search needs
 
 returns-2 : tie.Need-returns-2
-returns-2 c w =
-    all-short w (c .before .before .before .before .before .before .before .before .before .before .before .before .before .before .args .room) (rw (c .enum-told .given .1) at (c .before .before .before .before .write-variables .ensures w))
+returns-2 c w = all-short w _ (rw (c .enum-told .given .1) at (c .before .before .before .before .write-variables .ensures w))
 
 variables-requires : tie.Need-variables-requires
 variables-requires c κs = search needs
@@ -58,10 +57,11 @@ sub-close c = search needs
 
 close-requires : tie.Need-close-requires
 close-requires c κs =
-    let start = c .before .before .before .before .before .before .before .before .before .before .before .before .before .before .before .before .before in
-    let written = c .before .before .before .before .before .before .before .write-variables in
-    let long : length (written .last .1 .1 .0) ≡ length (now (start .args .store)) = search needs in
-    let filled = rw (c .before .before .before .filled .given .1) at (written .ensures (start .pre .0)) in
+    let written = c .before .before .before .before .before .before .before in
+    let unit = written .before .before .before .before in
+    let start = unit .before .before .before .before .before .before in
+    let long : length (written .write-variables .last .1 .1 .0) ≡ length (now (start .args .store)) = search needs in
+    let filled = rw (c .before .before .before .filled .given .1) at (written .write-variables .ensures (start .pre .0)) in
     (record { numbers-for-all = omega (arith, long, start .pre .1); most = start .pre .2; some = omega arith }, filled .2, omega (arith, within (start .pre .0)))
 
 same-length-2 : tie.Need-same-length-2
@@ -69,8 +69,8 @@ same-length-2 c = search needs
 
 returns-3 : tie.Need-returns-3
 returns-3 c w =
-    let written = c .before .before .before .before .before .before .before .before .before .before .write-variables in
-    let filled = rw (sym (gate-total w)) at (rw (c .before .before .before .before .before .before .filled .given .1) at (written .ensures w)) in
+    let told = c .before .before .before .before .before .before in
+    let filled = rw (sym (gate-total w)) at (rw (told .filled .given .1) at (told .before .before .before .before .write-variables .ensures w)) in
     c .before .before .close .ensures (w .left) (w .right) (filled .0) (filled .1) (variables-are w _ (c .before .before .before .variables .ensures))
 
 pub begin-spec : {M : Type 1} → statement M

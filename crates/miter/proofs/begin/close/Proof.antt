@@ -41,22 +41,22 @@ same-length c = search needs
 
 returns-2 : tie.Need-returns-2
 returns-2 c a b held n v =
-    let x = c .before .before .before .before .before .before .before .args in
-    let r = c .before .before .before .before .before .before .before .pre in
+    let start = c .before .before .before .before .before .before .before in
+    let x = start .args in
     let u = c .before .before .put-unit in
     let l : length (u .last .0) ≡ length (now (x .store)) = search needs in
     let q = begin-tracks (x .room) a b (x .count) n (u .last .0) (x .last) _ (c .before .before .before .positive .ensures) (u .ensures (gatesUpTo a b (length (miterGates a b))) held n) v in (
       begin a b,
-      begins (x .room) a b (x .count) n (omega (arith, r .1)),
+      begins (x .room) a b (x .count) n (omega (arith, start .pre .1)),
       q,
       record {
         state = begin a b;
         tracks = q;
-        numbers-for-all = omega (arith, l, r .0 .numbers-for-all);
-        most = r .0 .most;
-        clauses = omega (arith, r .1);
+        numbers-for-all = omega (arith, l, start .pre .0 .numbers-for-all);
+        most = start .pre .0 .most;
+        clauses = omega (arith, start .pre .1);
         steps = omega arith;
-        next = omega (arith, r .2);
+        next = omega (arith, start .pre .2);
       },
     )
 

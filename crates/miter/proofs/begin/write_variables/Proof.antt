@@ -75,14 +75,15 @@ returns c w =
 
 push-gate-requires : tie.Need-push-gate-requires Inv-loop μ-loop
 push-gate-requires c κs =
-    let r = c .before .before .before .before .before .before .before .before .before .before .pre in
-    let l = c .before .before .before .before .before .loop in
-    let u = c .before .before .before .variable in
-    let d = u .result in
-    let def = u .ensures (r .0) (l .v - (1 + c .before .before .before .before .before .before .before .before .before .before .args .pair .inputs)) (omega arith) in
+    let u = c .before .before .before in
+    let looped = u .before .before in
+    let l = looped .loop in
+    let start = looped .before .before .before .before .before in
+    let d = u .variable .result in
+    let def = u .variable .ensures (start .pre .0) (l .v - (1 + start .args .pair .inputs)) (omega arith) in
     record {
-      numbers-for-all = omega (arith, r .1 .numbers-for-all, l .inv .4, c .before .before .clause-count .ensures (d .n .code) (d .x .code) (d .y .code));
-      few = omega (arith, r .1 .most, l .inv .3);
+      numbers-for-all = omega (arith, start .pre .1 .numbers-for-all, l .inv .4, c .before .before .clause-count .ensures (d .n .code) (d .x .code) (d .y .code));
+      few = omega (arith, start .pre .1 .most, l .inv .3);
       low-n = def .low-n;
       low-x = def .low-x;
       low-y = def .low-y;
@@ -96,12 +97,13 @@ loop-less c = search needs
 
 loop-again : tie.Need-loop-again Inv-loop μ-loop
 loop-again c =
-    let l = c .before .before .before .before .before .before .before .before .loop in
-    let u = c .before .before .before .before .before .before .variable in
-    let d = u .result in
+    let u = c .before .before .before .before .before .before in
+    let looped = u .before .before in
+    let l = looped .loop in
+    let d = u .variable .result in
     let g = c .before .before .push-gate in
     let k = c .before .before .before .before .before .clause-count .ensures (d .n .code) (d .x .code) (d .y .code) in
-    let all = c .before .before .before .before .before .before .before .before .before .before .variables .ensures in
+    let all = looped .before .before .variables .ensures in
     let same : length (g .last .0) ≡ length (l .store) = search needs in
     let n = g .ensures .0 in (
       omega arith,
@@ -112,9 +114,9 @@ loop-again c =
       λ w i e.
           let j : ℕ = i - 1 in
           let next : i ≡ j + 1 = omega arith in
-          let at : l .v ≡ 1 + c .before .before .before .before .before .before .before .before .before .before .before .before .before .args .pair .inputs + j = omega arith in
+          let at : l .v ≡ 1 + looped .before .before .before .before .before .args .pair .inputs + j = omega arith in
           let held = l .inv .5 w j at in
-          rw next (variable-held w (l .v) j (l .count) d at (omega arith) (u .ensures w j at) (held .1) (g .last .0) (g .result) n
+          rw next (variable-held w (l .v) j (l .count) d at (omega arith) (u .variable .ensures w j at) (held .1) (g .last .0) (g .result) n
           (g .ensures .1 (gatesUpTo (w .left) (w .right) j) (held .0) (held .1))),
     )
 
