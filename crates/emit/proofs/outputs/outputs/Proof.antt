@@ -50,6 +50,14 @@ Inv-loop text pair work start proof₀ kz count z first-w kw run₀ w₀ i₀ pr
 abbrev μ-loop : tie.MeasureT-loop
 μ-loop text pair work start proof₀ kz count z first-w kw run₀ w₀ i₀ proof run w i = count - i
 
+-- the function's entry, from the loop's head by way of the call `outputs_of`
+abbrev start-of : tie.At-loop Inv-loop μ-loop → tie.Start Inv-loop μ-loop
+start-of c = let gate = c .before .before .before .before .before in gate .before .before .before .before .before .before .before .before
+
+-- at the loop's head the proof is as long as at the entry
+long : (c : tie.At-loop Inv-loop μ-loop) → length (c .loop .proof) ≡ length (now (start-of c .args .proof))
+long c = c .loop .inv .3 ∙ search needs
+
 cast-count : tie.Need-cast-count Inv-loop μ-loop
 cast-count c = search needs
 
@@ -76,16 +84,16 @@ out-requires c κs = search needs
 
 loop-holds : tie.Need-loop-holds Inv-loop μ-loop
 loop-holds c =
-    let start = c .before .before .before .before .before .before .before .before .before .before .before .before in
-    let small = within (start .pre .0) in
-    let z = c .before .before .before .before .before .before .before .first-z .ensures in
-    let w = c .before .before .before .before .before .before .first-w .ensures in (
+    let kw = c .before .before .before .before .before in
+    let z = kw .before .before in
+    let start = z .before .before .before .before .before in
+    let small = within (start .pre .0) in (
       omega arith,
       small .some,
-      omega (arith, z, w),
+      omega (arith, z .first-z .ensures, kw .before .first-w .ensures),
       refl,
       record { lines = omega arith; clauses = omega arith },
-      record { within = small; few = start .pre .3; z-is = z; w-is = w; kw-is = c .before .before .before .before .before .first-w-clause .ensures },
+      record { within = small; few = start .pre .3; z-is = z .first-z .ensures; w-is = kw .before .first-w .ensures; kw-is = kw .first-w-clause .ensures },
       λ l t links known n p s whole h. h,
     )
 
@@ -115,15 +123,14 @@ add-next-out c = search needs
 
 next-out-requires : tie.Need-next-out-requires Inv-loop μ-loop
 next-out-requires c κs =
-    let start = c .before .before .before .before .before .before .before .before .before .before .before .before .before .before .before .before in
-    let pre = start .pre in
-    let l = c .before .before .before .loop in
+    let looped = c .before .before .before in
+    let pre = start-of looped .pre in
+    let l = looped .loop in
     let b = l .inv .5 in
     let i = c .before .before .loop-test .taken in
-    let first = c .before .before .before .before .before .before .out in
-    let bytes : length (first .last .1 .1 .0) ≡ length (now (start .args .proof)) = search needs in (
+    let first = looped .before .before .before .out in (
       record {
-        bytes-for-all = omega (arith, pre .1 .bytes-for-all, l .inv .4 .lines, first .ensures .0 .lines, l .inv .3 ∙ bytes);
+        bytes-for-all = omega (arith, pre .1 .bytes-for-all, l .inv .4 .lines, first .ensures .0 .lines, long looped);
         numbers = omega (arith, pre .1 .numbers, l .inv .4 .clauses, first .ensures .0 .clauses);
       },
       pre .2,
@@ -178,31 +185,28 @@ positive-requires c κs = search needs
 
 resolve-on-requires : tie.Need-resolve-on-requires Inv-loop μ-loop
 resolve-on-requires c κs =
-    let l = c .before .before .before .before .loop in
-    let first = c .before .before .before .before .before .before .before .out in
-    let b = c .before .before .before .before .before .before .before .before .before .before .before .before .before .before .before .before .before in
-    let bytes : length (first .last .1 .1 .0) ≡ length (now (b .args .proof)) = search needs in
+    let looped = c .before .before .before .before in
+    let pre = start-of looped .pre in
+    let l = looped .loop in
+    let first = looped .before .before .before .out in
     record {
-      bytes-for-all = omega (arith, b .pre .1 .bytes-for-all, l .inv .4 .lines, l .inv .0, l .inv .1, first .ensures .0 .lines, l .inv .3 ∙ bytes);
-      numbers = omega (arith, b .pre .1 .numbers, l .inv .4 .clauses, l .inv .0, l .inv .1, first .ensures .0 .clauses);
+      bytes-for-all = omega (arith, pre .1 .bytes-for-all, l .inv .4 .lines, l .inv .0, l .inv .1, first .ensures .0 .lines, long looped);
+      numbers = omega (arith, pre .1 .numbers, l .inv .4 .clauses, l .inv .0, l .inv .1, first .ensures .0 .clauses);
     }
 
 same-length : tie.Need-same-length Inv-loop μ-loop
 same-length c =
-    let l = c .before .before .before .before .before .before .before .loop in
-    let first = c .before .before .before .before .before .before .before .before .before .before .out in
-    let a = c .before .before .before .before .before .before .before .before .before .before .before .before .before .before .before .before .before .before .before .before .args in
-    let start : length (first .last .1 .1 .0) ≡ length (now (a .proof)) = search needs in
-    let end : length (c .before .before .resolve-on .last .0) ≡ length (l .proof) = search needs in
-    end ∙ l .inv .3 ∙ start
+    let looped = c .before .before .before .before .before .before .before in
+    let end : length (c .before .before .resolve-on .last .0) ≡ length (looped .loop .proof) = search needs in
+    end ∙ long looped
 
 returns : tie.Need-returns Inv-loop μ-loop
 returns c =
-    let a = c .before .before .before .before .before .before .before .before .before .before .before .before .before .before .before .before .before .before .before .before .args in
-    let l = c .before .before .before .before .before .before .before .loop in
-    let gate = c .before .before .before .before .before .before .before .before .before .before .before .before .outputs-of in
-    let first = c .before .before .before .before .before .before .before .before .before .before .out in
-    let number = c .before .before .before .before .last-clause .ensures in
+    let looped = c .before .before .before .before .before .before .before in
+    let l = looped .loop in
+    let first = looped .before .before .before .out in
+    let gate = looped .before .before .before .before .before .outputs-of in
+    let a = start-of looped .args in
     let end = c .before .before .resolve-on in (
       record {
         lines = omega (arith, l .inv .4 .lines, l .inv .0, l .inv .1, first .ensures .0 .lines, end .ensures .0 .lines);
@@ -219,7 +223,7 @@ returns c =
           (omega (arith, many, w .outputs, within w)) x y (first .ensures .1 t links known (omega (arith, below .0)) (omega (arith, below .1))) in
           rw (← last-tree w (repOf t) links _ _ (a .kz) _ _ (l .inv .5) refl k)
           (up-to-all (repOf t) (linkOf links) gs _ _ _ (a .kz) _ (omega (arith, many, w .outputs, l .inv .1, c .before .before .before .before .before .before .loop-test .left))
-          (l .inv .6 w t links known n _ _ _ one) (rw (number, c .before .before .before .positive .ensures) at (end .ensures .1))),
+          (l .inv .6 w t links known n _ _ _ one) (rw (c .before .before .before .before .last-clause .ensures, c .before .before .before .positive .ensures) at (end .ensures .1))),
     )
 
 pub outputs-spec : {M : Type 1} → statement M

@@ -57,21 +57,23 @@ same-length-2 c = search needs
 
 returns : tie.Need-returns
 returns c w h b =
-    let a = c .before .before .before .before .before .before .before .before .before .before .before .before .before .before .before .before .before .before .before .before .before .before .args in
+    let done = c .before .before .before .before .before .before .before .before .before in
+    let linked = done .before .before .before .before .before in
+    let nets = linked .before .before .before .before in
+    let a = nets .before .before .before .before .args in
     let t = bothTable (w .left) (w .right) in
     let n = length-table (w .left .inputs) (gatesOf (w .left) (w .right)) in
     let m = length-gates (w .left) (w .right) (w .alike) in
     let long : length t ≡ 1 + a .pair .inputs + a .pair .left + a .pair .right = omega (arith, n, m, w .inputs, w .left-gates, w .right-gates) in
-    let nets = c .before .before .before .before .before .before .before .before .before .before .before .before .before .before .before .before .before .before .nets in
-    let z = c .before .before .before .before .before .before .before .before .before .before .before .before .before .before .before .before .before .first-z-clause .ensures .1 w in
-    let behind = c .before .before .before .before .before .before .before .before .before .before .before .before .before .before .before .before .first-behind in
-    let start : ℕ = 8 * nets .result in
+    let z = linked .before .before .before .first-z-clause .ensures .1 w in
+    let behind = linked .before .before .first-behind in
+    let start : ℕ = 8 * nets .nets .result in
     let begin : Progress = record { lines = 0; clauses = behind .result - 1; next = firstGateClause } in
-    let s = c .before .before .before .before .before .before .before .before .before .before .before .before .before .before .start-links in
-    let g = c .before .before .before .before .before .before .before .before .before .gates in
+    let s = linked .start-links in
+    let g = done .gates in
     let o = c .before .before .outputs in
-    let rows = s .ensures .1 t h (omega (arith, nets .ensures)) in
-    let first = known-first (w .left) (w .right) (w .alike) (s .last .0) start rows (omega (arith, nets .ensures)) (subst (λ (i : ℕ). Keeps (s .last .0) start (startLinks i)) (sym (w .inputs)) (s .ensures .0)) in
+    let rows = s .ensures .1 t h (omega (arith, nets .nets .ensures)) in
+    let first = known-first (w .left) (w .right) (w .alike) (s .last .0) start rows (omega (arith, nets .nets .ensures)) (subst (λ (i : ℕ). Keeps (s .last .0) start (startLinks i)) (sym (w .inputs)) (s .ensures .0)) in
     let all = g .ensures .1 w t (subst (λ (i : ℕ). Known (s .last .0) start t (startLinks i)) (w .inputs) first) long in
     emitted (now (a .proof)) _ _ _ start begin (g .result) (record { lines = g .result .lines; clauses = g .result .clauses; clause = 0 }) (o .result) t (w .left) (w .right) refl (omega (arith, behind .ensures, z, w .outputs)) refl refl all
     (o .ensures .1 w t _ (all .known) (all .nets ∙ omega (arith, m, w .inputs, w .left-gates, w .right-gates)) z) b

@@ -71,24 +71,24 @@ loop-less c = search needs
 
 loop-again : tie.Need-loop-again Inv-loop μ-loop
 loop-again c =
-    let a = c .before .before .before .before .before .before .before .before .before .before .before .before .before .before .before .args in
-    let l = c .before .before .before .before .before .before .before .before .before .loop in
-    let g = c .before .before .before .before .before .before .before .gate-of in
     let o = c .before .before .before .before .one-gate in
-    let first = c .before .before .before .before .before .before .before .before .before .before .before .first-gate in
-    let v = l .inv in (
+    let gate = c .before .before .before .before .before .before .before in
+    let looped = gate .before .before in
+    let l = looped .loop in
+    let first = looped .before .before .first-gate in
+    let a = looped .before .before .before .before .before .before .args in (
       omega arith,
-      (let s : length (o .last .0) ≡ length (l .work) = search needs in s) ∙ v .1,
-      (let s : length (o .last .1 .1 .0) ≡ length (l .proof) = search needs in s) ∙ v .2,
-      omega (arith, o .ensures .0 .lines, v .3),
-      omega (arith, o .ensures .0 .clauses, v .4),
-      omega (arith, o .ensures .0 .next, v .5),
+      (let s : length (o .last .0) ≡ length (l .work) = search needs in s) ∙ l .inv .1,
+      (let s : length (o .last .1 .1 .0) ≡ length (l .proof) = search needs in s) ∙ l .inv .2,
+      omega (arith, o .ensures .0 .lines, l .inv .3),
+      omega (arith, o .ensures .0 .clauses, l .inv .4),
+      omega (arith, o .ensures .0 .next, l .inv .5),
       λ w t k n.
-          let u = v .6 w t k n in
+          let u = l .inv .6 w t k n in
           let h : l .i < length (gatesOf (w .left) (w .right)) = omega (arith, length-gates (w .left) (w .right) (w .alike), w .left-gates, w .right-gates) in
           let e : first .result + l .i ≡ firstGate (w .left) + l .i = omega (arith, first .ensures, w .inputs) in
-          let low = reads-done (now (a .proof)) (a .at) (a .start) t (w .left) (w .right) (w .alike) (l .i) _ _ h (g .ensures w) e in
-          up-to-next (now (a .proof)) (a .at) (a .start) t (w .left) (w .right) (l .proof) _ (l .work) (o .last .0) (l .done) (o .result) (l .i) _ _ h (g .ensures w) e u
+          let low = reads-done (now (a .proof)) (a .at) (a .start) t (w .left) (w .right) (w .alike) (l .i) _ _ h (gate .gate-of .ensures w) e in
+          up-to-next (now (a .proof)) (a .at) (a .start) t (w .left) (w .right) (l .proof) _ (l .work) (o .last .0) (l .done) (o .result) (l .i) _ _ h (gate .gate-of .ensures w) e u
           (o .ensures .1 t (u .links) (u .known) (omega (arith, u .long, first .ensures)) (omega (arith, first .ensures)) low),
     )
 
