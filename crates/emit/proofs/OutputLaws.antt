@@ -24,7 +24,7 @@ use Rattle.emit_laws.specs.Trees.Tree.{old, cut}
 use Rattle.emit_laws.specs.Subst.{subst2}
 use Rattle.emit_laws.specs.Outputs.{outTree, chain, outsTree}
 use Rattle.emit_laws.specs.Place.{firstZClause}
-use Rattle.emit_laws.specs.Listing.{linkOf}
+use Rattle.emit_laws.specs.Gates.{linkOf}
 use Rattle.emit_laws.specs.Emit.{lastTree}
 use Rattle.emit_laws.specs.Stepwise.{Then, then-old}
 use Rattle.derive.specs.declared.lines.Derived.{Derived}

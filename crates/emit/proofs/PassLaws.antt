@@ -21,7 +21,7 @@ use Rattle.fold_laws.specs.Engine.{bothTable}
 use Rattle.fold_laws.specs.Entries.{length-table}
 use Rattle.emit_laws.specs.Replay.{Resolution}
 use Rattle.emit_laws.specs.Trees.{Tree, size, lay, length-lay, sizes, nums, lays, length-lays}
-use Rattle.emit_laws.specs.Listing.{Literals, ClauseNumbers, linkOf, normal, normalNumbers, trees, over-normal}
+use Rattle.emit_laws.specs.Gates.{Literals, ClauseNumbers, linkOf, normal, normalNumbers, trees, over-normal}
 use Rattle.emit_laws.specs.Place.{clauseCount, behind, firstZClause, lastNumber}
 use Rattle.emit_laws.specs.Loop.{slots, from, gateTrees, sign, loop}
 use Rattle.emit_laws.specs.Emit.{startLinks, gateLines, lastTree, emit}
