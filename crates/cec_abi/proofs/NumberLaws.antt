@@ -2,17 +2,18 @@
 use Prim.Native.Nat.{ℕ, _^_, _<_, _≤_}
 use mathlib.Core.Path.{_≡_, refl}
 use mathlib.Core.List.{List, [], _∷_}
-use mathlib.Core.Bool.{true, false, and-false}
+use mathlib.Core.Bool.{Bool, true, false, and-false, true≢false}
 use native.Mathlib.Omega.{arith}
-use lib.Dec.{ltb}
+use lib.Dec.{eqb, ltb}
 use lib.ListN.{length, getD, take}
-use borrow.Author.Tests.{lt-ltb, le-ltb}
+use borrow.Author.Tests.{lt-ltb, le-ltb, eqb-true}
 use Rattle.model.specs.Answers.{guard}
 use Rattle.model.specs.Answers.Answer.{ok, refused}
-use Rattle.model.specs.Frames.{widths, isKind, oneByte, twoBytes}
+use Rattle.model.specs.Frames.{widths, isKind, reportKind, oneByte, twoBytes}
 use Rattle.frame.specs.declared.Op.{Op}
 use Rattle.frame.specs.declared.Op.the-variants.{And, Xor}
 use Rattle.frame.specs.Frames.{gateKind, extendKind}
+use Rattle.frame.specs.Kinds.{operandsKind}
 use Rattle.cec_abi.specs.Calls.{anyNumber, limits, fit, frameFrom}
 
 -- ---- a number against the digits of its field
@@ -48,6 +49,15 @@ unfolding limits widths
 extend-limits And = refl
 extend-limits Xor = refl
 
+-- a kind outside the table is no report's
+pub outside : (kind : ℕ) → isKind (widths kind) ≡ false → isKind (limits kind) ≡ false
+unfolding limits widths
+outside kind e = go (eqb kind reportKind) refl
+  where
+    go : (b : Bool) → eqb kind reportKind ≡ b → isKind (limits kind) ≡ false
+    go true q = absurd (true≢false (rw (eqb-true kind reportKind q) at e))
+    go false q = rw q (rw q at e)
+
 -- ---- the ways of making a frame, where `ws` are the digits that its fields may have
 
 module _ (kind : ℕ) {ws : List ℕ} (numbers : List ℕ) (known : limits kind ≡ ws) where
@@ -62,6 +72,14 @@ module _ (kind : ℕ) {ws : List ℕ} (numbers : List ℕ) (known : limits kind 
   pub no-kind : isKind ws ≡ false → refused 3 0 ≡ frameFrom kind numbers
   unfolding frameFrom guard
   no-kind k = rw (known, k)
+
+-- a gate and an extension take two of the numbers
+pub two-numbers : (extends : Bool) (op : Op) (x y : ℕ) (rest : List ℕ) → frameFrom (operandsKind extends op) (x ∷ y ∷ []) ≡ frameFrom (operandsKind extends op) (x ∷ y ∷ rest)
+unfolding limits widths fit frameFrom
+two-numbers false And x y rest = refl
+two-numbers false Xor x y rest = refl
+two-numbers true And x y rest = refl
+two-numbers true Xor x y rest = refl
 
 -- ---- a list of four
 
