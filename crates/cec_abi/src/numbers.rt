@@ -5,6 +5,7 @@ use frame::Frame;
 use frame::Op;
 use frame::kinds::Kind;
 use frame::kinds::kind_of;
+use refusal::Refusal;
 ghost use mathlib.Core.Path.{_≡_};
 ghost use mathlib.Core.List.{[], _∷_};
 ghost use Rattle.model.specs.Frames.{headerKind, outputKind, resolveKind, reportKind};
@@ -15,13 +16,22 @@ fn header_from(inputs: u64, gates: u64, outputs: u64) -> Decoded
     ensures { λ r. ⌜ decodedOf r ≡ frameFrom headerKind (inputs ∷ gates ∷ outputs ∷ []) ⌝ }
 {
     if inputs > 0xFF {
-        return Decoded::Fault { number: 3, line: 0 };
+        return Decoded::Fault {
+            number: Refusal::FRAME,
+            line: 0,
+        };
     }
     if gates > 0xFFFF {
-        return Decoded::Fault { number: 3, line: 0 };
+        return Decoded::Fault {
+            number: Refusal::FRAME,
+            line: 0,
+        };
     }
     if outputs > 0xFF {
-        return Decoded::Fault { number: 3, line: 0 };
+        return Decoded::Fault {
+            number: Refusal::FRAME,
+            line: 0,
+        };
     }
     Decoded::Framed(Frame::Header {
         inputs: inputs as u8,
@@ -34,10 +44,16 @@ fn gate_from(op: Op, x: u64, y: u64) -> Decoded
     ensures { λ r. ⌜ decodedOf r ≡ frameFrom (gateKind op) (x ∷ y ∷ []) ⌝ }
 {
     if x > 0xFFFF {
-        return Decoded::Fault { number: 3, line: 0 };
+        return Decoded::Fault {
+            number: Refusal::FRAME,
+            line: 0,
+        };
     }
     if y > 0xFFFF {
-        return Decoded::Fault { number: 3, line: 0 };
+        return Decoded::Fault {
+            number: Refusal::FRAME,
+            line: 0,
+        };
     }
     Decoded::Framed(Frame::Gate {
         op,
@@ -50,7 +66,10 @@ fn output_from(literal: u64) -> Decoded
     ensures { λ r. ⌜ decodedOf r ≡ frameFrom outputKind (literal ∷ []) ⌝ }
 {
     if literal > 0xFFFF {
-        return Decoded::Fault { number: 3, line: 0 };
+        return Decoded::Fault {
+            number: Refusal::FRAME,
+            line: 0,
+        };
     }
     Decoded::Framed(Frame::Output {
         literal: literal as u16,
@@ -61,13 +80,22 @@ fn resolve_from(first: u64, second: u64, variable: u64) -> Decoded
     ensures { λ r. ⌜ decodedOf r ≡ frameFrom resolveKind (first ∷ second ∷ variable ∷ []) ⌝ }
 {
     if first > 0xFFFF {
-        return Decoded::Fault { number: 3, line: 0 };
+        return Decoded::Fault {
+            number: Refusal::FRAME,
+            line: 0,
+        };
     }
     if second > 0xFFFF {
-        return Decoded::Fault { number: 3, line: 0 };
+        return Decoded::Fault {
+            number: Refusal::FRAME,
+            line: 0,
+        };
     }
     if variable > 0xFFFF {
-        return Decoded::Fault { number: 3, line: 0 };
+        return Decoded::Fault {
+            number: Refusal::FRAME,
+            line: 0,
+        };
     }
     Decoded::Framed(Frame::Resolve {
         first: first as u16,
@@ -80,10 +108,16 @@ fn extend_from(op: Op, x: u64, y: u64) -> Decoded
     ensures { λ r. ⌜ decodedOf r ≡ frameFrom (extendKind op) (x ∷ y ∷ []) ⌝ }
 {
     if x > 0xFFFF {
-        return Decoded::Fault { number: 3, line: 0 };
+        return Decoded::Fault {
+            number: Refusal::FRAME,
+            line: 0,
+        };
     }
     if y > 0xFFFF {
-        return Decoded::Fault { number: 3, line: 0 };
+        return Decoded::Fault {
+            number: Refusal::FRAME,
+            line: 0,
+        };
     }
     Decoded::Framed(Frame::Extend {
         op,
@@ -96,13 +130,22 @@ fn report_from(refusal: u64, line: u64, steps: u64, clauses: u64) -> Decoded
     ensures { λ r. ⌜ decodedOf r ≡ frameFrom reportKind (refusal ∷ line ∷ steps ∷ clauses ∷ []) ⌝ }
 {
     if refusal > 0xFF {
-        return Decoded::Fault { number: 3, line: 0 };
+        return Decoded::Fault {
+            number: Refusal::FRAME,
+            line: 0,
+        };
     }
     if steps > 0xFFFF {
-        return Decoded::Fault { number: 3, line: 0 };
+        return Decoded::Fault {
+            number: Refusal::FRAME,
+            line: 0,
+        };
     }
     if clauses > 0xFFFF {
-        return Decoded::Fault { number: 3, line: 0 };
+        return Decoded::Fault {
+            number: Refusal::FRAME,
+            line: 0,
+        };
     }
     Decoded::Framed(Frame::Report {
         refusal: refusal as u8,
@@ -128,6 +171,9 @@ pub fn frame_from(kind: u8, numbers: [u64; 4]) -> Decoded
         Kind::Resolve => resolve_from(first, second, third),
         Kind::Extend(op) => extend_from(op, first, second),
         Kind::Report => report_from(first, second, third, fourth),
-        Kind::Unknown => Decoded::Fault { number: 3, line: 0 },
+        Kind::Unknown => Decoded::Fault {
+            number: Refusal::FRAME,
+            line: 0,
+        },
     }
 }

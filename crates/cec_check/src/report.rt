@@ -2,7 +2,7 @@
 use checker::Checked;
 use checker::check;
 use frame::report::report_line;
-use netlist::Refusal;
+use refusal::Refusal;
 use streams::STREAM_BYTES;
 ghost use mathlib.Core.Path.{_≡_};
 ghost use Rattle.model.specs.Answers.{Answer};
@@ -20,7 +20,10 @@ fn judge(stream: &[u8]) -> Checked
     ensures { λ r. ⌜ checkedOf r ≡ countedOf (model.judge (now (stream .entry))) ⌝ }
 {
     if STREAM_BYTES < stream.len() {
-        return Checked::Refused(Refusal { number: 1, line: 0 });
+        return Checked::Refused(Refusal {
+            number: Refusal::STREAM,
+            line: 0,
+        });
     }
     let mut store = [0u16; STORE_NUMBERS];
     check(stream, &mut store)

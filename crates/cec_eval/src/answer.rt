@@ -4,7 +4,7 @@ use evaluator::evaluate;
 use frame::fields::put_hex;
 use frame::kinds::REPORT_BYTES;
 use frame::report::report_line;
-use netlist::Refusal;
+use refusal::Refusal;
 use streams::STREAM_BYTES;
 ghost use mathlib.Core.Path.{_≡_};
 ghost use Prim.Native.Nat.{_≤_};
@@ -29,7 +29,10 @@ fn evaluate_stream(stream: &[u8], pattern: u64) -> Evaluated
     ensures { λ r. ⌜ evaluatedOf r ≡ evaluated (now (stream .entry)) pattern ⌝ }
 {
     if STREAM_BYTES < stream.len() {
-        return Evaluated::Refused(Refusal { number: 1, line: 0 });
+        return Evaluated::Refused(Refusal {
+            number: Refusal::STREAM,
+            line: 0,
+        });
     }
     let mut work = [0u8; WORKING_BYTES];
     evaluate(stream, pattern, &mut work)

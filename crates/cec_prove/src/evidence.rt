@@ -6,7 +6,7 @@ use frame::Frame;
 use frame::kinds::REPORT_BYTES;
 use frame::kinds::RESOLVE_BYTES;
 use frame::write_frame;
-use netlist::Refusal;
+use refusal::Refusal;
 use streams::STREAM_BYTES;
 ghost use Rattle.cec_prove.specs.Streams.{Answered, Prints};
 
@@ -32,7 +32,10 @@ fn prove_stream(
 {
     if STREAM_BYTES < stream.len() {
         clear_numbers(work, 0);
-        return Proved::Refused(Refusal { number: 1, line: 0 });
+        return Proved::Refused(Refusal {
+            number: Refusal::STREAM,
+            line: 0,
+        });
     }
     prove(stream, out, work)
 }

@@ -33,7 +33,7 @@ use Rattle.frame.specs.Frames.{frameOf, first, firstOf, Inside}
 use Rattle.frame.proofs.FirstLaws.{first-none, first-fault, first-found}
 use Rattle.netlist.specs.Says.{from}
 use Rattle.steps.specs.declared.Progress.{Progress}
-use Rattle.netlist.specs.declared.Refusal.{Refusal}
+use Rattle.refusal.specs.declared.Refusal.{Refusal}
 use Rattle.steps.specs.declared.Stepped.the-variants as stepped-case
 use Rattle.steps.specs.declared.Stepped.the-variants.{Done}
 use Rattle.steps.specs.Progress.{extension, Tracks, Within, Says}

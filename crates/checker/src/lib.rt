@@ -5,7 +5,7 @@ mod verdict; // the verdict, with the clauses left in the store
 
 use clause::Clause;
 use clearing::clear_numbers;
-use netlist::Refusal;
+use refusal::Refusal;
 use steps::Stepped;
 use verdict::verdict;
 ghost use mathlib.Core.Path.{_≡_};

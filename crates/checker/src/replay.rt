@@ -8,7 +8,7 @@ use frame::kinds::kind_at;
 use frame::read::Resolve;
 use frame::read::resolve_at;
 use frame::read_line;
-use netlist::Refusal;
+use refusal::Refusal;
 use steps::Progress;
 use steps::Stepped;
 use steps::extend_step;
@@ -42,7 +42,10 @@ fn frame_step(store: &mut [u16], p: Progress, room: usize, line: usize, frame: F
             variable,
         ),
         Frame::Extend { op, x, y } => extend_step(store, p, room, line, op, x, y),
-        _ => Stepped::Refused(Refusal { number: 3, line }),
+        _ => Stepped::Refused(Refusal {
+            number: Refusal::FRAME,
+            line,
+        }),
     }
 }
 

@@ -3,8 +3,8 @@ use crate::replay::replay;
 use clause::Clause;
 use miter::begin::begin;
 use netlist::Both;
-use netlist::Refusal;
 use netlist::read_both;
+use refusal::Refusal;
 use steps::Stepped;
 ghost use mathlib.Core.Path.{_≡_};
 ghost use lib.ListN.{length};
@@ -43,7 +43,7 @@ pub fn verdict(text: &[u8], store: &mut [u16]) -> Stepped
     };
     if !p.empty {
         return Stepped::Refused(Refusal {
-            number: 15,
+            number: Refusal::EMPTY,
             line: 0,
         });
     }

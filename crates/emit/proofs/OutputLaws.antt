@@ -17,7 +17,7 @@ use Rattle.laws.specs.MiterOrder.{last, shift-below, below-right}
 use Rattle.netlist.specs.declared.Pair.{Pair}
 use Rattle.listing.specs.Listing.{noGate}
 use Rattle.netlist.specs.Within.{Within}
-use Rattle.miter.specs.Miters.{Lists}
+use Rattle.miter.specs.Miters.{PairStands}
 use Rattle.miter.proofs.MiterLaws.{z-of}
 use Rattle.emit_laws.specs.Trees.{Tree, size, lay}
 use Rattle.emit_laws.specs.Trees.Tree.{old, cut}
@@ -148,7 +148,7 @@ pub record Begin (p : Pair) (z w kz kw : ℕ) : Type 0 where
   pub w-is : w ≡ 1 + p .inputs + p .left + p .right + p .outputs
   pub kw-is : kw ≡ kz + 4 * p .outputs
 
-module _ {text : List ℕ} {p : Pair} (w : Lists text p) where
+module _ {text : List ℕ} {p : Pair} (w : PairStands text p) where
   -- a z reads nets of the lists
   pub z-below : (k : ℕ) → k < p .outputs
       → (netOf (getD (zGates (w .left) (w .right)) k noGate .x) < 1 + p .inputs + p .left + p .right)

@@ -22,7 +22,7 @@ ghost use Rattle.emit_laws.specs.Gates.{linkOf};
 ghost use Rattle.emit_laws.specs.Place.{firstZClause};
 ghost use Rattle.emit_laws.specs.Outputs.{outTree};
 ghost use Rattle.emit_laws.specs.Emit.{lastTree};
-ghost use Rattle.miter.specs.Miters.{Lists};
+ghost use Rattle.miter.specs.Miters.{PairStands};
 ghost use Rattle.derive.specs.Emission.{Room, Few, Emits};
 ghost use Rattle.derive.specs.Known.{Known};
 
@@ -84,9 +84,9 @@ pub fn outputs(
     at: Derived,
     kz: u16,
 ) -> Derived
-    requires { ⌜ Lists (now text) pair × Room (length (now proof)) at (linesPerOutput * pair .outputs) × (start ≤ length (now work)) × (kz ≤ 10000) ⌝ }
+    requires { ⌜ PairStands (now text) pair × Room (length (now proof)) at (linesPerOutput * pair .outputs) × (start ≤ length (now work)) × (kz ≤ 10000) ⌝ }
     ensures few { λ r. ⌜ Few at (linesPerOutput * pair .outputs) r ⌝ }
-    ensures emits { λ r. ⌜ ((w : Lists (now (text .entry)) pair) (t : List Entry) (links : List (List ℕ)) → Known (now (work .entry)) start t links
+    ensures emits { λ r. ⌜ ((w : PairStands (now (text .entry)) pair) (t : List Entry) (links : List (List ℕ)) → Known (now (work .entry)) start t links
         → length links ≡ 1 + pair .inputs + pair .left + pair .right → kz ≡ firstZClause (w .left) (w .right)
         → Emits (now (proof .entry)) at (now (proof .exit)) r (lastTree (repOf t) links (w .left) (w .right))) ⌝ }
 {

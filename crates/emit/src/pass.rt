@@ -36,7 +36,7 @@ ghost use Rattle.emit_laws.specs.Emit.{startLinks};
 ghost use Rattle.listing.specs.Listing.{gateMeant};
 ghost use Rattle.table.specs.Rows.{HoldsTable};
 ghost use Rattle.table.specs.Links.{linkWidth};
-ghost use Rattle.miter.specs.Miters.{Lists};
+ghost use Rattle.miter.specs.Miters.{PairStands};
 ghost use Rattle.derive.specs.Emission.{Written, Room, FewGate, EmitsAll};
 ghost use Rattle.derive.specs.Known.{Known, Next, literalsOf};
 ghost use Rattle.emit.specs.Pass.{EmitsGate, GateDone, AllDone, linesOf, ProgressRoom, FewProgress, normalOdd, normalTrees};
@@ -149,10 +149,10 @@ fn gates(
     proof: &mut [u8],
     at: Progress,
 ) -> Progress
-    requires { ⌜ Lists (now text) pair × ProgressRoom (length (now proof)) at (linesPerGate * (pair .left + pair .right))
+    requires { ⌜ PairStands (now text) pair × ProgressRoom (length (now proof)) at (linesPerGate * (pair .left + pair .right))
         × (start + linkWidth * (1 + pair .inputs + pair .left + pair .right) ≤ length (now work)) × (at .next ≡ firstGateClause) ⌝ }
     ensures few { λ r. ⌜ (r .lines ≤ at .lines + linesPerGate * (pair .left + pair .right)) × (r .clauses ≤ at .clauses + linesPerGate * (pair .left + pair .right)) ⌝ }
-    ensures done { λ r. ⌜ ((w : Lists (now (text .entry)) pair) (t : List Entry) → Known (now (work .entry)) start t (startLinks (pair .inputs))
+    ensures done { λ r. ⌜ ((w : PairStands (now (text .entry)) pair) (t : List Entry) → Known (now (work .entry)) start t (startLinks (pair .inputs))
         → length t ≡ 1 + pair .inputs + pair .left + pair .right → AllDone (now (proof .entry)) at (now (proof .exit)) (now (work .exit)) start r t (w .left) (w .right)) ⌝ }
 {
     let first = pair.first_gate();
@@ -169,9 +169,9 @@ fn gates(
 
 // The lines of a proof for both lists, from the table of the first pass; their number.
 pub fn emit(text: &[u8], pair: Pair, work: &mut [u16], proof: &mut [u8]) -> usize
-    requires { ⌜ Lists (now text) pair × (proofLineBytes * (linesPerGate * (pair .left + pair .right) + linesPerOutput * pair .outputs) ≤ length (now proof))
+    requires { ⌜ PairStands (now text) pair × (proofLineBytes * (linesPerGate * (pair .left + pair .right) + linesPerOutput * pair .outputs) ≤ length (now proof))
         × (numbersPerNet * (1 + pair .inputs + pair .left + pair .right) ≤ length (now work)) ⌝ }
-    ensures { λ r. ⌜ ((w : Lists (now (text .entry)) pair) → HoldsTable (now (work .entry)) (bothTable (w .left) (w .right)) → Written (now (proof .entry)) []
+    ensures { λ r. ⌜ ((w : PairStands (now (text .entry)) pair) → HoldsTable (now (work .entry)) (bothTable (w .left) (w .right)) → Written (now (proof .entry)) []
         → Written (now (proof .exit)) (linesOf (w .left) (w .right)) × (r ≡ length (linesOf (w .left) (w .right)))) ⌝ }
 {
     let start = ROW * pair.nets();

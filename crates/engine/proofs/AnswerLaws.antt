@@ -31,33 +31,33 @@ use Rattle.engine.specs.Replies.{listsOf, due, FoldedSays, AnswerSays}
 
 -- ---- two lists
 
-module _ {text : List ℕ} {p : Pair} (w : miters.Lists text p) (bytes numbers : ℕ) where
+module _ {text : List ℕ} {p : Pair} (w : miters.PairStands text p) (bytes numbers : ℕ) where
   abbrev l : Lists
   l = listsOf w
 
   bound-is : proofLineBytes * lineBound (w .left) (w .right) ≡ proofLineBytes * (linesPerGate * (p .left + p .right) + linesPerOutput * p .outputs)
   bound-is = rw (w .left-gates, w .right-gates, w .outputs)
 
-  working-is : working (w .left) (w .right) ≡ numbersPerNet * (1 + p .inputs + (p .left + p .right))
-  working-is = rw (w .inputs, w .left-gates, w .right-gates) (omega arith)
+  working-is : {nets : ℕ} → nets ≡ 1 + p .inputs + p .left + p .right → working (w .left) (w .right) ≡ numbersPerNet * nets
+  working-is are = rw (w .inputs, w .left-gates, w .right-gates) (omega arith)
 
   pub due-16 : bytes < proofLineBytes * (linesPerGate * (p .left + p .right) + linesPerOutput * p .outputs) → due bytes numbers l ≡ refused 16 0
   unfolding due guard
   due-16 h = rw (bound-is, lt-leb _ _ h)
 
-  module _ (enough : proofLineBytes * (linesPerGate * (p .left + p .right) + linesPerOutput * p .outputs) ≤ bytes) where
-    pub due-17 : numbers < numbersPerNet * (1 + p .inputs + (p .left + p .right)) → due bytes numbers l ≡ refused 17 0
+  module _ (enough : proofLineBytes * (linesPerGate * (p .left + p .right) + linesPerOutput * p .outputs) ≤ bytes) {nets : ℕ} (are : nets ≡ 1 + p .inputs + p .left + p .right) where
+    pub due-17 : numbers < numbersPerNet * nets → due bytes numbers l ≡ refused 17 0
     unfolding due guard
-    due-17 h = rw (bound-is, le-leb _ _ enough, working-is, lt-leb _ _ h)
+    due-17 h = rw (bound-is, le-leb _ _ enough, working-is are, lt-leb _ _ h)
 
-    module _ (wide : numbersPerNet * (1 + p .inputs + (p .left + p .right)) ≤ numbers) (k : ℕ) (is : k ≡ byReps (w .left) (w .right)) where
+    module _ (wide : numbersPerNet * nets ≤ numbers) (k : ℕ) (is : k ≡ byReps (w .left) (w .right)) where
       pub due-18 : (k ≡ 0 → ⊥) → due bytes numbers l ≡ refused 18 k
       unfolding due guard
-      due-18 h = rw (bound-is, le-leb _ _ enough, working-is, le-leb _ _ wide, differing-by-reps (w .left) (w .right) (w .alike), ← is, ne-eqb k 0 h)
+      due-18 h = rw (bound-is, le-leb _ _ enough, working-is are, le-leb _ _ wide, differing-by-reps (w .left) (w .right) (w .alike), ← is, ne-eqb k 0 h)
 
       pub due-proof : k ≡ 0 → due bytes numbers l ≡ ok l
       unfolding due guard
-      due-proof h = rw (bound-is, le-leb _ _ enough, working-is, le-leb _ _ wide, differing-by-reps (w .left) (w .right) (w .alike), ← is, eq-eqb k 0 h)
+      due-proof h = rw (bound-is, le-leb _ _ enough, working-is are, le-leb _ _ wide, differing-by-reps (w .left) (w .right) (w .alike), ← is, eq-eqb k 0 h)
 
 -- ---- a text
 

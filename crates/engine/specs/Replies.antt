@@ -22,7 +22,7 @@ provedOf (Lines n) = ok n
 provedOf (Refused r) = refused (r .number) (r .line)
 
 -- the lists that a text has, as the definitions have them
-abbrev pub listsOf : {text : List ℕ} {p : Pair} → miters.Lists text p → Lists
+abbrev pub listsOf : {text : List ℕ} {p : Pair} → miters.PairStands text p → Lists
 listsOf w = record { left = w .left; right = w .right }
 
 -- what is due to lists that were read

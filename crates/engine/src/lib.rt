@@ -8,12 +8,12 @@ use fold::pass::fold;
 use frame::kinds::RESOLVE_BYTES;
 use netlist::Both;
 use netlist::Pair;
-use netlist::Refusal;
 use netlist::read_lists;
+use refusal::Refusal;
 ghost use lib.ListN.{length};
 ghost use Rattle.model.specs.Engine as model;
 ghost use Rattle.engine.specs.Replies.{provedOf, listsOf, FoldedSays, AnswerSays};
-ghost use Rattle.miter.specs.Miters.{Lists};
+ghost use Rattle.miter.specs.Miters.{PairStands};
 
 // The number of the proof's lines, or the refusal.
 pub enum Proved {
@@ -29,20 +29,20 @@ const NUMBERS_PER_NET: usize = 16;
 
 // The answer to both lists, where they were read: memory is tested, then the first pass is made and the outputs compared, then the second.
 fn folded(text: &[u8], pair: Pair, proof: &mut [u8], work: &mut [u16]) -> Proved
-    requires { ⌜ Lists (now text) pair ⌝ }
-    ensures { λ r. ⌜ ((w : Lists (now (text .entry)) pair) → FoldedSays (listsOf w) (length (now (proof .entry))) (length (now (work .entry))) (now (proof .exit)) r) ⌝ }
+    requires { ⌜ PairStands (now text) pair ⌝ }
+    ensures { λ r. ⌜ ((w : PairStands (now (text .entry)) pair) → FoldedSays (listsOf w) (length (now (proof .entry))) (length (now (work .entry))) (now (proof .exit)) r) ⌝ }
 {
     let gates = pair.left + pair.right;
     let bound = LINES_PER_GATE * gates + LINES_PER_OUTPUT * pair.outputs;
     if proof.len() < RESOLVE_BYTES * bound {
         return Proved::Refused(Refusal {
-            number: 16,
+            number: Refusal::ROOM,
             line: 0,
         });
     }
-    if work.len() < NUMBERS_PER_NET * (1 + pair.inputs + gates) {
+    if work.len() < NUMBERS_PER_NET * pair.nets() {
         return Proved::Refused(Refusal {
-            number: 17,
+            number: Refusal::WORK,
             line: 0,
         });
     }
@@ -50,7 +50,7 @@ fn folded(text: &[u8], pair: Pair, proof: &mut [u8], work: &mut [u16]) -> Proved
     let apart = first_apart(text, pair, work);
     if apart != 0 {
         return Proved::Refused(Refusal {
-            number: 18,
+            number: Refusal::FORMS,
             line: apart,
         });
     }

@@ -2,8 +2,8 @@
 use clearing::clear_bytes;
 use netlist::Counts;
 use netlist::One;
-use netlist::Refusal;
 use netlist::read_list;
+use refusal::Refusal;
 use values::read_word;
 use values::run_gates;
 use values::set_inputs;
@@ -45,7 +45,7 @@ fn answer(text: &[u8], pattern: u64, work: &mut [u8]) -> Evaluated
     let nets = 1 + counts.inputs + counts.gates;
     if work.len() < nets {
         return Evaluated::Refused(Refusal {
-            number: 17,
+            number: Refusal::WORK,
             line: 0,
         });
     }

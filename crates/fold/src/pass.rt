@@ -16,7 +16,7 @@ ghost use Rattle.fold_laws.specs.Table as model;
 ghost use Rattle.fold_laws.specs.Engine.{bothTable, byReps};
 ghost use Rattle.table.specs.Rows.{HoldsTable};
 ghost use Rattle.table.specs.Buckets.{Indexed, Among};
-ghost use Rattle.miter.specs.Miters.{Lists};
+ghost use Rattle.miter.specs.Miters.{PairStands};
 
 // The table of net 0 and the inputs, which represent themselves.
 fn set_bases(work: &mut [u16], nets: usize, inputs: usize)
@@ -33,12 +33,12 @@ fn set_bases(work: &mut [u16], nets: usize, inputs: usize)
 
 // The table of both lists.
 pub fn fold(text: &[u8], pair: Pair, work: &mut [u16])
-    requires { ⌜ Lists (now text) pair × (numbersPerNet * (1 + pair .inputs + pair .left + pair .right) ≤ length (now work)) ⌝ }
-    ensures { λ _. ⌜ ((w : Lists (now (text .entry)) pair) → HoldsTable (now (work .exit)) (bothTable (w .left) (w .right))) ⌝ }
+    requires { ⌜ PairStands (now text) pair × (numbersPerNet * (1 + pair .inputs + pair .left + pair .right) ≤ length (now work)) ⌝ }
+    ensures { λ _. ⌜ ((w : PairStands (now (text .entry)) pair) → HoldsTable (now (work .exit)) (bothTable (w .left) (w .right))) ⌝ }
 {
-    let first = 1 + pair.inputs;
+    let first = pair.first_gate();
     let gates = pair.left + pair.right;
-    let nets = first + gates;
+    let nets = pair.nets();
     set_bases(work, nets, pair.inputs);
     let mut k: usize = 0;
     while k < gates {
@@ -52,8 +52,8 @@ pub fn fold(text: &[u8], pair: Pair, work: &mut [u16])
 
 // The first output whose representatives differ, from 1, or 0.
 pub fn first_apart(text: &[u8], pair: Pair, work: &[u16]) -> usize
-    requires { ⌜ Lists (now text) pair ⌝ }
-    ensures { λ r. ⌜ ((w : Lists (now (text .entry)) pair) → HoldsTable (now (work .entry)) (bothTable (w .left) (w .right)) → r ≡ byReps (w .left) (w .right)) ⌝ }
+    requires { ⌜ PairStands (now text) pair ⌝ }
+    ensures { λ r. ⌜ ((w : PairStands (now (text .entry)) pair) → HoldsTable (now (work .entry)) (bothTable (w .left) (w .right)) → r ≡ byReps (w .left) (w .right)) ⌝ }
 {
     let outputs = pair.outputs;
     let mut k: usize = 0;

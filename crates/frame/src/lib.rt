@@ -13,6 +13,7 @@ use fields::line_number_fits;
 use fields::write_line;
 use read::Look;
 use read::frame_at;
+use refusal::Refusal;
 ghost use mathlib.Core.Path.{_≡_};
 ghost use Prim.Native.Nat.{ℕ, _<_, _≤_};
 ghost use lib.ListN.{drop, length};
@@ -93,12 +94,12 @@ fn fault_at(text: &[u8], at: usize) -> u8
 {
     let end = at + digits_at(text, at);
     if end == text.len() {
-        return 2;
+        return Refusal::BYTES;
     }
     if text[end] != 10 {
-        return 2;
+        return Refusal::BYTES;
     }
-    3
+    Refusal::FRAME
 }
 
 // What stands at a cursor where no frame does: nothing, or a line that is refused.
@@ -149,13 +150,16 @@ pub fn read_frame(text: &[u8]) -> Decoded
                 Line::End => Decoded::Framed(frame),
                 Line::Refused { number, line } => Decoded::Fault { number, line },
                 Line::Read(_, _) => Decoded::Fault {
-                    number: 3,
+                    number: Refusal::FRAME,
                     line: second,
                 },
             }
         }
         Line::Refused { number, line } => Decoded::Fault { number, line },
-        Line::End => Decoded::Fault { number: 2, line: 1 },
+        Line::End => Decoded::Fault {
+            number: Refusal::BYTES,
+            line: 1,
+        },
     }
 }
 
@@ -167,13 +171,13 @@ pub fn write_frame(frame: Frame, out: &mut [u8]) -> Written
     clear_bytes(out, 0);
     if !line_number_fits(frame) {
         return Written::Unwritten {
-            number: 16,
+            number: Refusal::ROOM,
             line: 0,
         };
     }
     if out.len() < line_len(frame) {
         return Written::Unwritten {
-            number: 16,
+            number: Refusal::ROOM,
             line: 0,
         };
     }

@@ -19,7 +19,7 @@ use Rattle.listing.specs.Listing.{noGate}
 use Rattle.miter.specs.declared.variables.Definition.{Definition}
 use Rattle.clause.specs.Sets.{Proper}
 use Rattle.steps.specs.Progress.{clausesOf, Held, Tracks}
-use Rattle.miter.specs.Miters.{Lists, Defines, gateCount, gatesUpTo, beginOf}
+use Rattle.miter.specs.Miters.{PairStands, Defines, gateCount, gatesUpTo, beginOf}
 use Rattle.steps.proofs.HeldLaws.{held-more}
 use Rattle.miter.proofs.MiterLaws.{gate-total}
 
@@ -66,7 +66,7 @@ pub up-to-fewer : (a b : Netlist) (i n : ℕ) → i ≤ n → length (gatesUpTo 
 up-to-fewer a b i n h = omega (arith, clauses-fewer (firstGate a) (miterGates a b) i n h)
 
 -- variable v, which is i of them, in the store behind the clauses of those before it
-module _ {text : List ℕ} {p : Pair} (w : Lists text p) (v i count : ℕ) (d : Definition) (e : v ≡ 1 + p .inputs + i) (h : i < gateCount p)
+module _ {text : List ℕ} {p : Pair} (w : PairStands text p) (v i count : ℕ) (d : Definition) (e : v ≡ 1 + p .inputs + i) (h : i < gateCount p)
     (def : Defines d v (getD (miterGates (w .left) (w .right)) i noGate)) (len : length (gatesUpTo (w .left) (w .right) i) ≡ count) where
   abbrev earlier : List Clause
   earlier = gatesUpTo (w .left) (w .right) i
@@ -141,7 +141,7 @@ none-held store = record { room = omega arith; same = refl; proper = tt }
 pub first-held : (store : List ℕ) (l : ℕ) → l ≡ negative 0 → Held store ([] ++ ((l ∷ []) ∷ [])) → Held store (firstClause ∷ [])
 first-held store l e h = rw (sym e) h
 
-module _ {text : List ℕ} {p : Pair} (w : Lists text p) where
+module _ {text : List ℕ} {p : Pair} (w : PairStands text p) where
   pub variables-are : (n : ℕ) → n ≡ 1 + p .inputs + p .left + p .right + p .outputs + (p .outputs - 1) → miterVars (w .left) (w .right) ≡ n - 1 + 1
   unfolding miterVars
   variables-are n e = omega (arith, gate-total w, w .inputs)

@@ -7,13 +7,13 @@ use Rattle.model.specs.Nets.{Netlist}
 use Rattle.laws.specs.ListText.{Stands, list-length}
 use Rattle.netlist.specs.declared.Pair.{Pair}
 use Rattle.netlist.proofs.ReplyLaws.{BothLists}
-use Rattle.miter.specs.Miters.{Lists}
+use Rattle.miter.specs.Miters.{PairStands}
 
 -- a list has bytes, so its place is in the text
 pub stands-inside : (text : List ℕ) (place : ℕ) (n : Netlist) → Stands (drop place text) n → place ≤ length text
 stands-inside text place n s = omega (arith, length-drop place text, list-length s)
 
-abbrev pub lists-of : {text : List ℕ} {p : Pair} → BothLists text p → Lists text p
+abbrev pub lists-of : {text : List ℕ} {p : Pair} → BothLists text p → PairStands text p
 lists-of {text} {p} b = record {
   left = b .read .lists .left;
   right = b .read .lists .right;

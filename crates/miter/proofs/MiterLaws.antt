@@ -25,7 +25,7 @@ use Rattle.listing.specs.declared.Gate as listing
 use Rattle.listing.specs.Listing.{gateMeant, noGate}
 use Rattle.netlist.specs.Within.{Within}
 use Rattle.miter.specs.declared.variables.Definition.{Definition}
-use Rattle.miter.specs.Miters.{Lists, Defines, gateCount, zGate, wVariable, wGate}
+use Rattle.miter.specs.Miters.{PairStands, Defines, gateCount, zGate, wVariable, wGate}
 use Rattle.steps.proofs.StepLaws.{gate-clauses}
 
 -- ---- literals
@@ -159,7 +159,7 @@ module _ (a b : Netlist) (ab : pairs.Pair a b) where
 
 -- ---- two lists that were read
 
-module _ {text : List ℕ} {p : Pair} (w : Lists text p) where
+module _ {text : List ℕ} {p : Pair} (w : PairStands text p) where
   pub within : Within p
   within =
       record {
@@ -203,7 +203,7 @@ module _ {text : List ℕ} {p : Pair} (w : Lists text p) where
 
 -- ---- the miter's variables
 
-module _ {text : List ℕ} {p : Pair} (w : Lists text p) where
+module _ {text : List ℕ} {p : Pair} (w : PairStands text p) where
   abbrev a : Netlist
   a = w .left
 

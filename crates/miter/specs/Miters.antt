@@ -22,7 +22,7 @@ use Rattle.miter.specs.declared.begin.Filled.{Filled}
 use Rattle.miter.specs.declared.begin.Filled.the-variants.{UpTo, Short}
 
 -- the lists that stand in a text where a reader found them
-pub record Lists (text : List ℕ) (p : Pair) : Type 0 where
+pub record PairStands (text : List ℕ) (p : Pair) : Type 0 where
   pub left : Netlist
   pub right : Netlist
   pub alike : pairs.Pair left right

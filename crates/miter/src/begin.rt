@@ -4,7 +4,7 @@ use clause::Clause;
 use clause::store::save;
 use literal::Literal;
 use netlist::Pair;
-use netlist::Refusal;
+use refusal::Refusal;
 use steps::Progress;
 use steps::Stepped;
 use steps::clause_count;
@@ -18,7 +18,7 @@ ghost use Rattle.model.specs.Nets.{Netlist};
 ghost use Rattle.model.specs.Clauses as model;
 ghost use Rattle.model.specs.Miter.{firstClause, miterGates, miterVars};
 ghost use Rattle.steps.specs.Progress.{Held, Says};
-ghost use Rattle.miter.specs.Miters.{Lists, Space, FilledSays, beginOf, gateCount, gatesUpTo};
+ghost use Rattle.miter.specs.Miters.{PairStands, Space, FilledSays, beginOf, gateCount, gatesUpTo};
 
 // How many clauses there are then; or the store is too short for them.
 pub enum Filled {
@@ -41,7 +41,10 @@ fn close(store: &mut [u16], room: usize, count: usize, last: usize) -> Stepped
         → miterVars a b ≡ last + 1 → Says room (beginOf room a b) (now (store .exit)) r) ⌝ }
 {
     if count == room {
-        return Stepped::Refused(Refusal { number: 8, line: 0 });
+        return Stepped::Refused(Refusal {
+            number: Refusal::MITER,
+            line: 0,
+        });
     }
     put_unit(store, count, Literal::positive(last as u16));
     Stepped::Done(Progress {
@@ -54,8 +57,8 @@ fn close(store: &mut [u16], room: usize, count: usize, last: usize) -> Stepped
 
 // The variables in order, each with its clauses, behind the first clause.
 fn write_variables(text: &[u8], pair: Pair, store: &mut [u16], room: usize) -> Filled
-    requires { ⌜ Lists (now text) pair × Space (length (now store)) room × Held (now store) (firstClause ∷ []) ⌝ }
-    ensures { λ r. ⌜ ((w : Lists (now (text .entry)) pair) → FilledSays room (gatesUpTo (w .left) (w .right) (gateCount pair)) (now (store .exit)) r) ⌝ }
+    requires { ⌜ PairStands (now text) pair × Space (length (now store)) room × Held (now store) (firstClause ∷ []) ⌝ }
+    ensures { λ r. ⌜ ((w : PairStands (now (text .entry)) pair) → FilledSays room (gatesUpTo (w .left) (w .right) (gateCount pair)) (now (store .exit)) r) ⌝ }
 {
     let end = pair.variables();
     let mut count: usize = 1;
@@ -74,16 +77,22 @@ fn write_variables(text: &[u8], pair: Pair, store: &mut [u16], room: usize) -> F
 
 // All of the miter's clauses, and the state before the first step; or 8.
 pub fn begin(text: &[u8], pair: Pair, store: &mut [u16], room: usize) -> Stepped
-    requires { ⌜ Lists (now text) pair × (clauseWidth * room ≤ length (now store)) × (room ≤ mostClauses) ⌝ }
-    ensures { λ r. ⌜ ((w : Lists (now (text .entry)) pair) → Says room (beginOf room (w .left) (w .right)) (now (store .exit)) r) ⌝ }
+    requires { ⌜ PairStands (now text) pair × (clauseWidth * room ≤ length (now store)) × (room ≤ mostClauses) ⌝ }
+    ensures { λ r. ⌜ ((w : PairStands (now (text .entry)) pair) → Says room (beginOf room (w .left) (w .right)) (now (store .exit)) r) ⌝ }
 {
     if room == 0 {
-        return Stepped::Refused(Refusal { number: 8, line: 0 });
+        return Stepped::Refused(Refusal {
+            number: Refusal::MITER,
+            line: 0,
+        });
     }
     put_unit(store, 0, Literal::negative(0));
     let filled = write_variables(text, pair, store, room);
     let Filled::UpTo(count) = filled else {
-        return Stepped::Refused(Refusal { number: 8, line: 0 });
+        return Stepped::Refused(Refusal {
+            number: Refusal::MITER,
+            line: 0,
+        });
     };
     close(store, room, count, pair.variables() - 1)
 }

@@ -14,7 +14,7 @@ ghost use Rattle.model.specs.Miter as model;
 ghost use Rattle.model.specs.Miter.{gatesOf, zGates};
 ghost use Rattle.frame.specs.Frames.{opOf};
 ghost use Rattle.listing.specs.Listing.{gateMeant, noGate};
-ghost use Rattle.miter.specs.Miters.{Lists};
+ghost use Rattle.miter.specs.Miters.{PairStands};
 
 // A right list's literal as the miter's: its gates lie behind the left list's.
 fn shift(inputs: usize, left: usize, l: u16) -> u16
@@ -29,8 +29,8 @@ fn shift(inputs: usize, left: usize, l: u16) -> u16
 
 // Gate k of both lists, from 0.
 pub fn gate_of(text: &[u8], pair: Pair, k: usize) -> Gate
-    requires { ⌜ Lists (now text) pair × (k < pair .left + pair .right) ⌝ }
-    ensures { λ r. ⌜ ((w : Lists (now (text .entry)) pair) → gateMeant r ≡ getD (gatesOf (w .left) (w .right)) k noGate) ⌝ }
+    requires { ⌜ PairStands (now text) pair × (k < pair .left + pair .right) ⌝ }
+    ensures { λ r. ⌜ ((w : PairStands (now (text .entry)) pair) → gateMeant r ≡ getD (gatesOf (w .left) (w .right)) k noGate) ⌝ }
 {
     let left = pair.left;
     if k < left {
@@ -47,8 +47,8 @@ pub fn gate_of(text: &[u8], pair: Pair, k: usize) -> Gate
 
 // Its operation alone.
 pub fn op_of(text: &[u8], pair: Pair, k: usize) -> Op
-    requires { ⌜ Lists (now text) pair × (k < pair .left + pair .right) ⌝ }
-    ensures { λ r. ⌜ ((w : Lists (now (text .entry)) pair) → opOf r ≡ getD (gatesOf (w .left) (w .right)) k noGate .op) ⌝ }
+    requires { ⌜ PairStands (now text) pair × (k < pair .left + pair .right) ⌝ }
+    ensures { λ r. ⌜ ((w : PairStands (now (text .entry)) pair) → opOf r ≡ getD (gatesOf (w .left) (w .right)) k noGate .op) ⌝ }
 {
     let left = pair.left;
     if k < left {
@@ -59,8 +59,8 @@ pub fn op_of(text: &[u8], pair: Pair, k: usize) -> Op
 
 // The left and the right output k, from 0, as the XOR that compares them.
 pub fn outputs_of(text: &[u8], pair: Pair, k: usize) -> Gate
-    requires { ⌜ Lists (now text) pair × (k < pair .outputs) ⌝ }
-    ensures { λ r. ⌜ ((w : Lists (now (text .entry)) pair) → gateMeant r ≡ getD (zGates (w .left) (w .right)) k noGate) ⌝ }
+    requires { ⌜ PairStands (now text) pair × (k < pair .outputs) ⌝ }
+    ensures { λ r. ⌜ ((w : PairStands (now (text .entry)) pair) → gateMeant r ≡ getD (zGates (w .left) (w .right)) k noGate) ⌝ }
 {
     let x = output_at(text, 0, pair.left, k);
     let y = output_at(text, pair.place, pair.right, k);

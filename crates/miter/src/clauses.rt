@@ -9,7 +9,7 @@ ghost use Prim.Native.Nat.{_+_, _-_, _*_, _≤_};
 ghost use Rattle.model.specs.Miter.{clauseCount, firstZClause};
 ghost use Rattle.frame.specs.Frames.{opOf};
 ghost use Rattle.netlist.specs.Within.{Within};
-ghost use Rattle.miter.specs.Miters.{Lists};
+ghost use Rattle.miter.specs.Miters.{PairStands};
 
 // The first left gate's first clause, behind 'not variable 0'.
 pub const FIRST_GATE_CLAUSE: u16 = 2;
@@ -24,9 +24,9 @@ pub fn behind(k: u16, op: Op) -> u16
 
 // The first z's first clause, behind those of the gates of both lists.
 pub fn first_z_clause(text: &[u8], pair: Pair) -> u16
-    requires { ⌜ Lists (now text) pair ⌝ }
+    requires { ⌜ PairStands (now text) pair ⌝ }
     ensures few { λ r. ⌜ r ≤ 8194 ⌝ }
-    ensures number { λ r. ⌜ ((w : Lists (now (text .entry)) pair) → r ≡ firstZClause (w .left) (w .right)) ⌝ }
+    ensures number { λ r. ⌜ ((w : PairStands (now (text .entry)) pair) → r ≡ firstZClause (w .left) (w .right)) ⌝ }
 {
     let gates = pair.left + pair.right;
     let mut next = FIRST_GATE_CLAUSE;

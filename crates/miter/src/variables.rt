@@ -14,7 +14,7 @@ ghost use Rattle.model.specs.Limits.{highestVariable};
 ghost use Rattle.model.specs.Nets.{readsBelow};
 ghost use Rattle.model.specs.Miter.{miterGates};
 ghost use Rattle.listing.specs.Listing.{gateMeant, noGate};
-ghost use Rattle.miter.specs.Miters.{Lists, Defines, gateCount, wVariable, wGate};
+ghost use Rattle.miter.specs.Miters.{PairStands, Defines, gateCount, wVariable, wGate};
 
 // n = AND or XOR of x, y.
 pub struct Definition {
@@ -64,8 +64,8 @@ fn w_gate(z: usize, w: usize, k: usize) -> Definition
 
 // Variable v of the miter, from the first left gate on.
 pub fn variable(text: &[u8], pair: Pair, v: usize) -> Definition
-    requires { ⌜ Lists (now text) pair × (1 + pair .inputs ≤ v) × (v < 1 + pair .inputs + gateCount pair) ⌝ }
-    ensures { λ r. ⌜ ((w : Lists (now (text .entry)) pair) (i : ℕ) → v ≡ 1 + pair .inputs + i → Defines r v (getD (miterGates (w .left) (w .right)) i noGate)) ⌝ }
+    requires { ⌜ PairStands (now text) pair × (1 + pair .inputs ≤ v) × (v < 1 + pair .inputs + gateCount pair) ⌝ }
+    ensures { λ r. ⌜ ((w : PairStands (now (text .entry)) pair) (i : ℕ) → v ≡ 1 + pair .inputs + i → Defines r v (getD (miterGates (w .left) (w .right)) i noGate)) ⌝ }
 {
     let z = pair.first_z();
     if v < z {

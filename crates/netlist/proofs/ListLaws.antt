@@ -15,7 +15,7 @@ use Rattle.model.specs.Nets.{Netlist, size}
 use Rattle.model.specs.Lists.{emptyList, readOutputs, readGates, readList, anyHeader, likeLeft, readBoth, readLists, readOne}
 use Rattle.laws.specs.Reading as reading
 use Rattle.frame.specs.declared.Cursor.{Cursor}
-use Rattle.netlist.specs.declared.Refusal.{Refusal}
+use Rattle.refusal.specs.declared.Refusal.{Refusal}
 use Rattle.netlist.specs.declared.Counts.{Counts}
 use Rattle.netlist.specs.declared.Pair.{Pair}
 use Rattle.netlist.specs.declared.Behind.{Behind}

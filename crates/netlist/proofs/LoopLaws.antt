@@ -9,7 +9,7 @@ use Rattle.model.specs.Nets.{Netlist, size}
 use Rattle.model.specs.Lists.{addGate, addOutput, readOutputs, readGates}
 use Rattle.frame.specs.declared.Cursor.{Cursor}
 use Rattle.frame.specs.Frames.{Inside}
-use Rattle.netlist.specs.declared.Refusal.{Refusal}
+use Rattle.refusal.specs.declared.Refusal.{Refusal}
 use Rattle.netlist.specs.Says.{from, answerOf, MoreGates, MoreOutputs, GateRead, GatesRead, OutputRead, OutputsRead}
 
 -- ---- gates

@@ -6,7 +6,7 @@ use Rattle.model.specs.Answers.Answer.{ok}
 use Rattle.model.specs.Nets.{Netlist}
 use Rattle.model.specs.Lists.{Lists, ListsRead}
 use Rattle.laws.specs.ListText.{headerBytes, gateBytes, outputBytes}
-use Rattle.netlist.specs.declared.Refusal.{Refusal}
+use Rattle.refusal.specs.declared.Refusal.{Refusal}
 use Rattle.netlist.specs.declared.Counts.{Counts}
 use Rattle.netlist.specs.declared.Pair.{Pair}
 use Rattle.netlist.specs.declared.One as one

@@ -16,7 +16,7 @@ use Rattle.frame.specs.declared.Cursor.{Cursor}
 use Rattle.frame.specs.declared.Line.{Line}
 use Rattle.frame.specs.declared.Line.the-variants.{Read, End, Refused}
 use Rattle.frame.specs.Frames.{Inside}
-use Rattle.netlist.specs.declared.Refusal.{Refusal}
+use Rattle.refusal.specs.declared.Refusal.{Refusal}
 use Rattle.netlist.specs.declared.Counts.{Counts}
 use Rattle.netlist.specs.declared.Part as part
 use Rattle.netlist.specs.declared.Part.the-variants as part-case

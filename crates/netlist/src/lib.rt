@@ -10,6 +10,7 @@ use frame::kinds::OUTPUT_BYTES;
 use lines::read_body;
 use lines::read_end;
 use lines::read_header;
+use refusal::Refusal;
 ghost use mathlib.Core.Path.{_≡_};
 ghost use Prim.Native.Nat.{_+_, _-_, _≤_};
 ghost use Rattle.frame.specs.Frames.{Inside};
@@ -18,11 +19,6 @@ ghost use Rattle.model.specs.Lists.{readOne, readBoth, readLists};
 ghost use Rattle.netlist.specs.Within.{Within};
 ghost use Rattle.netlist.specs.Says.{PartSays, RightSays, partRefusal, behindRefusal};
 ghost use Rattle.netlist.specs.Replies.{oneRefusal, bothRefusal, countsReply, pairReply, countsOf, bytesOf, pairBy, pairOf, bothOf};
-
-pub struct Refusal {
-    pub number: u8,
-    pub line: usize,
-}
 
 // What a header states.
 pub struct Counts {
@@ -70,7 +66,10 @@ impl Part {
         ensures { λ r. ⌜ r ≡ partRefusal self ⌝ }
     {
         match self {
-            Part::Counted(_, _) => Refusal { number: 0, line: 0 },
+            Part::Counted(_, _) => Refusal {
+                number: Refusal::NONE,
+                line: 0,
+            },
             Part::Refused(r) => r,
         }
     }
@@ -82,7 +81,10 @@ impl Behind {
         ensures { λ r. ⌜ r ≡ behindRefusal self ⌝ }
     {
         match self {
-            Behind::At(_) => Refusal { number: 0, line: 0 },
+            Behind::At(_) => Refusal {
+                number: Refusal::NONE,
+                line: 0,
+            },
             Behind::Refused(r) => r,
         }
     }
@@ -94,7 +96,10 @@ impl One {
         ensures { λ r. ⌜ r ≡ oneRefusal self ⌝ }
     {
         match self {
-            One::Counted(_) => Refusal { number: 0, line: 0 },
+            One::Counted(_) => Refusal {
+                number: Refusal::NONE,
+                line: 0,
+            },
             One::Refused(r) => r,
         }
     }
@@ -106,7 +111,10 @@ impl Both {
         ensures { λ r. ⌜ r ≡ bothRefusal self ⌝ }
     {
         match self {
-            Both::Paired(_) => Refusal { number: 0, line: 0 },
+            Both::Paired(_) => Refusal {
+                number: Refusal::NONE,
+                line: 0,
+            },
             Both::Refused(r) => r,
         }
     }
@@ -190,10 +198,16 @@ fn read_right(text: &[u8], left: Counts, middle: Cursor) -> Part
         return header;
     };
     if counts.inputs != left.inputs {
-        return Part::Refused(Refusal { number: 6, line });
+        return Part::Refused(Refusal {
+            number: Refusal::UNLIKE,
+            line,
+        });
     }
     if counts.outputs != left.outputs {
-        return Part::Refused(Refusal { number: 6, line });
+        return Part::Refused(Refusal {
+            number: Refusal::UNLIKE,
+            line,
+        });
     }
     let behind = read_body(text, body, counts);
     let Behind::At(next) = behind else {

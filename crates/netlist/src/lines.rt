@@ -3,7 +3,6 @@
 use crate::Behind;
 use crate::Counts;
 use crate::Part;
-use crate::Refusal;
 use crate::plain::is_below;
 use crate::plain::plain_gates;
 use crate::plain::plain_outputs;
@@ -13,6 +12,7 @@ use frame::Line;
 use frame::kinds::GATE_BYTES;
 use frame::kinds::OUTPUT_BYTES;
 use frame::read_line;
+use refusal::Refusal;
 ghost use mathlib.Core.Path.{_≡_};
 ghost use Prim.Native.Nat.{_+_, _≤_};
 ghost use Rattle.model.specs.Limits.{mostInputs, mostGates, mostOutputs};
@@ -31,8 +31,14 @@ pub fn missing(got: Line, line: usize) -> Refusal
 {
     match got {
         Line::Refused { number, line } => Refusal { number, line },
-        Line::End => Refusal { number: 4, line },
-        Line::Read(_, _) => Refusal { number: 3, line },
+        Line::End => Refusal {
+            number: Refusal::END,
+            line,
+        },
+        Line::Read(_, _) => Refusal {
+            number: Refusal::FRAME,
+            line,
+        },
     }
 }
 
@@ -51,19 +57,34 @@ pub fn read_header(text: &[u8], cursor: Cursor) -> Part
         outputs,
     } = frame
     else {
-        return Part::Refused(Refusal { number: 3, line });
+        return Part::Refused(Refusal {
+            number: Refusal::FRAME,
+            line,
+        });
     };
     if MOST_INPUTS < inputs {
-        return Part::Refused(Refusal { number: 5, line });
+        return Part::Refused(Refusal {
+            number: Refusal::COUNT,
+            line,
+        });
     }
     if MOST_GATES < gates {
-        return Part::Refused(Refusal { number: 5, line });
+        return Part::Refused(Refusal {
+            number: Refusal::COUNT,
+            line,
+        });
     }
     if outputs == 0 {
-        return Part::Refused(Refusal { number: 5, line });
+        return Part::Refused(Refusal {
+            number: Refusal::COUNT,
+            line,
+        });
     }
     if MOST_OUTPUTS < outputs {
-        return Part::Refused(Refusal { number: 5, line });
+        return Part::Refused(Refusal {
+            number: Refusal::COUNT,
+            line,
+        });
     }
     Part::Counted(
         Counts {
@@ -86,13 +107,22 @@ pub fn read_gate(text: &[u8], cursor: Cursor, net: usize) -> Behind
         return Behind::Refused(missing(got, line));
     };
     let Frame::Gate { op: _, x, y } = frame else {
-        return Behind::Refused(Refusal { number: 3, line });
+        return Behind::Refused(Refusal {
+            number: Refusal::FRAME,
+            line,
+        });
     };
     if !is_below(net, x) {
-        return Behind::Refused(Refusal { number: 7, line });
+        return Behind::Refused(Refusal {
+            number: Refusal::NET,
+            line,
+        });
     }
     if !is_below(net, y) {
-        return Behind::Refused(Refusal { number: 7, line });
+        return Behind::Refused(Refusal {
+            number: Refusal::NET,
+            line,
+        });
     }
     Behind::At(next)
 }
@@ -142,10 +172,16 @@ pub fn read_output(text: &[u8], cursor: Cursor, nets: usize) -> Behind
         return Behind::Refused(missing(got, line));
     };
     let Frame::Output { literal } = frame else {
-        return Behind::Refused(Refusal { number: 3, line });
+        return Behind::Refused(Refusal {
+            number: Refusal::FRAME,
+            line,
+        });
     };
     if !is_below(nets, literal) {
-        return Behind::Refused(Refusal { number: 7, line });
+        return Behind::Refused(Refusal {
+            number: Refusal::NET,
+            line,
+        });
     }
     Behind::At(next)
 }

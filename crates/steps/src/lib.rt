@@ -12,7 +12,7 @@ use clause::store::save;
 use clause::store::save_resolvent;
 use frame::Op;
 use literal::Literal;
-use netlist::Refusal;
+use refusal::Refusal;
 ghost use mathlib.Core.Path.{_≡_};
 ghost use Prim.Native.Nat.{ℕ, _+_, _*_, _<_, _≤_};
 ghost use mathlib.Core.List.{List, [], _∷_, _++_};
@@ -110,17 +110,29 @@ pub fn extend_step(
     let left = Literal::of(x);
     let right = Literal::of(y);
     if next <= left.variable() {
-        return Stepped::Refused(Refusal { number: 12, line });
+        return Stepped::Refused(Refusal {
+            number: Refusal::OPERAND,
+            line,
+        });
     }
     if next <= right.variable() {
-        return Stepped::Refused(Refusal { number: 12, line });
+        return Stepped::Refused(Refusal {
+            number: Refusal::OPERAND,
+            line,
+        });
     }
     if Literal::HIGHEST_VARIABLE < next {
-        return Stepped::Refused(Refusal { number: 13, line });
+        return Stepped::Refused(Refusal {
+            number: Refusal::VARIABLE,
+            line,
+        });
     }
     let total = clause_count(op);
     if room < clauses + total {
-        return Stepped::Refused(Refusal { number: 14, line });
+        return Stepped::Refused(Refusal {
+            number: Refusal::STORE,
+            line,
+        });
     }
     let n = Literal::positive(next);
     let count = push_gate(store, clauses, op, n, left, right);
@@ -145,7 +157,10 @@ fn push_resolvent(
 {
     let clauses = p.clauses;
     if clauses == room {
-        return Stepped::Refused(Refusal { number: 14, line });
+        return Stepped::Refused(Refusal {
+            number: Refusal::STORE,
+            line,
+        });
     }
     save_resolvent(store, clauses, resolvent);
     Stepped::Done(Progress {
@@ -185,16 +200,28 @@ pub fn resolve_step(
 {
     let clauses = p.clauses;
     if !is_clause(clauses, a) {
-        return Stepped::Refused(Refusal { number: 9, line });
+        return Stepped::Refused(Refusal {
+            number: Refusal::CLAUSE,
+            line,
+        });
     }
     if !is_clause(clauses, b) {
-        return Stepped::Refused(Refusal { number: 9, line });
+        return Stepped::Refused(Refusal {
+            number: Refusal::CLAUSE,
+            line,
+        });
     }
     let resolved = resolve_at(store, a - 1, b - 1, v);
     let outcome = resolved.outcome;
     match outcome {
-        Outcome::Missing => Stepped::Refused(Refusal { number: 10, line }),
-        Outcome::TooLong => Stepped::Refused(Refusal { number: 11, line }),
+        Outcome::Missing => Stepped::Refused(Refusal {
+            number: Refusal::PIVOT,
+            line,
+        }),
+        Outcome::TooLong => Stepped::Refused(Refusal {
+            number: Refusal::LENGTH,
+            line,
+        }),
         Outcome::Joined => push_resolvent(store, p, room, line, resolved.clause),
     }
 }

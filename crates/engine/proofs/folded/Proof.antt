@@ -32,17 +32,14 @@ mul-if1 c = search needs
 returns : tie.Need-returns
 returns c w = due-16 w _ _ (c .if1 .taken)
 
-add-if2 : tie.Need-add-if2
-add-if2 c = search needs
-
-add-if2-2 : tie.Need-add-if2-2
-add-if2-2 c = search needs
+nets-requires : tie.Need-nets-requires
+nets-requires c κs = search needs
 
 mul-if2 : tie.Need-mul-if2
 mul-if2 c = search needs
 
 returns-2 : tie.Need-returns-2
-returns-2 c w = due-17 w _ _ (c .before .before .if1 .left) (c .if2 .taken)
+returns-2 c w = due-17 w _ _ (c .before .before .if1 .left) (c .before .nets .ensures) (c .if2 .taken)
 
 fold-requires : tie.Need-fold-requires
 fold-requires c κs = search needs
@@ -57,7 +54,7 @@ returns-3 : tie.Need-returns-3
 returns-3 c w =
     let folded = c .before .before .before .before .before in
     let k = c .before .first-apart in
-    due-18 w _ _ (folded .before .before .before .before .if1 .left) (folded .before .before .if2 .left) (k .result) (k .ensures w (folded .fold .ensures w)) (c .if3 .taken)
+    due-18 w _ _ (folded .before .before .before .before .if1 .left) (folded .before .before .before .nets .ensures) (folded .before .before .if2 .left) (k .result) (k .ensures w (folded .fold .ensures w)) (c .if3 .taken)
 
 clear-bytes-requires : tie.Need-clear-bytes-requires
 clear-bytes-requires c κs = search needs
@@ -80,7 +77,7 @@ returns-4 c w =
     let proof = now (enough .before .before .before .before .before .before .args .proof) in
     let h = folded .fold .ensures w in
     let o = c .before .before .before .before .emit .ensures w h (none-written (length proof) (cleared proof _ (length proof) refl (cleared-at .clear-bytes .ensures))) in
-    (due-proof w _ _ (enough .if1 .left) (folded .before .before .if2 .left) _ (apart .first-apart .ensures w h) (cleared-at .before .before .if3 .left), o .0, o .1)
+    (due-proof w _ _ (enough .if1 .left) (folded .before .before .before .nets .ensures) (folded .before .before .if2 .left) _ (apart .first-apart .ensures w h) (cleared-at .before .before .if3 .left), o .0, o .1)
 
 pub folded-spec : {M : Type 1} → statement M
 folded-spec =
@@ -92,8 +89,7 @@ folded-spec =
     add-bound
     mul-if1
     returns
-    add-if2
-    add-if2-2
+    nets-requires
     mul-if2
     returns-2
     fold-requires

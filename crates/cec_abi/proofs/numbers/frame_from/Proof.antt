@@ -79,12 +79,12 @@ one-by-one s = four (s .args .t2) (search needs)
 
 returns : tie.Need-returns
 unfolding limits widths fit frameFrom
-returns c = 
+returns c =
     let due = c .before .before .before .kind-of in
     rw (rw (c .before .enum-told .given .1) at (due .ensures), ← one-by-one (c .before .before .before .before)) (c .header-from .ensures)
 
 returns-2 : tie.Need-returns-2
-returns-2 c = 
+returns-2 c =
     let known = c .before .before in
     let op = known .due .given .0 .0 in
     let due = known .before .before .kind-of in
@@ -92,18 +92,18 @@ returns-2 c =
 
 returns-3 : tie.Need-returns-3
 unfolding limits widths fit frameFrom
-returns-3 c = 
+returns-3 c =
     let due = c .before .before .before .kind-of in
     rw (rw (c .before .enum-told2 .given .1) at (due .ensures), ← one-by-one (c .before .before .before .before)) (c .output-from .ensures)
 
 returns-4 : tie.Need-returns-4
 unfolding limits widths fit frameFrom
-returns-4 c = 
+returns-4 c =
     let due = c .before .before .before .kind-of in
     rw (rw (c .before .enum-told3 .given .1) at (due .ensures), ← one-by-one (c .before .before .before .before)) (c .resolve-from .ensures)
 
 returns-5 : tie.Need-returns-5
-returns-5 c = 
+returns-5 c =
     let known = c .before .before in
     let op = known .due2 .given .0 .0 in
     let due = known .before .before .kind-of in
@@ -111,12 +111,12 @@ returns-5 c =
 
 returns-6 : tie.Need-returns-6
 unfolding limits widths fit frameFrom
-returns-6 c = 
+returns-6 c =
     let due = c .before .before .before .kind-of in
     rw (rw (c .before .enum-told4 .given .1) at (due .ensures), ← one-by-one (c .before .before .before .before)) (c .report-from .ensures)
 
 returns-7 : tie.Need-returns-7
-returns-7 c = 
+returns-7 c =
     let a = c .before .before .before .args in
     no-kind (a .kind) (a .t2) refl (outside (a .kind) (rw (c .enum-told5 .given .1) at (c .before .before .kind-of .ensures)))
 

@@ -13,7 +13,7 @@ use Rattle.laws.specs.MiterOrder.{length-z}
 use Rattle.fold_laws.specs.Table.{Entry, repOf}
 use Rattle.emit_laws.specs.Trees.{Tree}
 use Rattle.emit_laws.specs.Gates.{linkOf}
-use Rattle.miter.specs.Miters.{Lists}
+use Rattle.miter.specs.Miters.{PairStands}
 use Rattle.miter.proofs.MiterLaws.{within}
 use Rattle.derive.specs.declared.lines.Derived.{Derived}
 use Rattle.derive.specs.Emission.{Few}
@@ -41,7 +41,7 @@ Inv-loop text pair work start proof₀ kz count z first-w kw run₀ w₀ i₀ pr
     × (length proof ≡ length proof₀)
     × Few run₀ (7 * (i - 1)) run
     × Begin pair z first-w kz kw
-    × ((l : Lists text pair) (t : List Entry) (links : List (List ℕ)) → Known work start t links
+    × ((l : PairStands text pair) (t : List Entry) (links : List (List ℕ)) → Known work start t links
     → length links ≡ 1 + pair .inputs + pair .left + pair .right
     → (p : List ℕ) (s : Derived) (whole : Tree)
     → UpTo (repOf t) (linkOf links) (zGates (l .left) (l .right)) first-w kw z kz (kz + 4 * pair .outputs + 3 * (pair .outputs - 1)) p s whole i₀ proof₀ run₀ w₀

@@ -10,7 +10,7 @@ use Rattle.model.specs.Miter.{firstGate, gatesOf}
 use Rattle.laws.specs.MiterOrder.{length-gates}
 use Rattle.fold_laws.specs.Table.{Entry}
 use Rattle.emit_laws.specs.Emit.{startLinks}
-use Rattle.miter.specs.Miters.{Lists}
+use Rattle.miter.specs.Miters.{PairStands}
 use Rattle.derive.specs.Known.{Known}
 use Rattle.emit.proofs.PassLaws.{UpTo, up-to-none, up-to-next, reads-done, up-to-all}
 use borrow.Author.Needs.{needs}
@@ -30,7 +30,7 @@ Inv-loop text pair work₀ start proof₀ first total done₀ i₀ work proof do
     × (done .lines ≤ done₀ .lines + linesPerGate * i)
     × (done .clauses ≤ done₀ .clauses + linesPerGate * i)
     × (done .next ≤ done₀ .next + 4 * i)
-    × ((w : Lists text pair) (t : List Entry) → Known work₀ start t (startLinks (pair .inputs))
+    × ((w : PairStands text pair) (t : List Entry) → Known work₀ start t (startLinks (pair .inputs))
     → length t ≡ 1 + pair .inputs + pair .left + pair .right → UpTo proof₀ done₀ proof work start done t (w .left) (w .right) i)
 
 abbrev μ-loop : tie.MeasureT-loop

@@ -6,7 +6,7 @@ use native.Mathlib.Omega.{arith}
 use lib.ListN.{drop}
 use Rattle.fold_laws.specs.Engine.{movedTo, bothTable, repsApart, byReps}
 use Rattle.table.specs.Rows.{HoldsTable}
-use Rattle.miter.specs.Miters.{Lists}
+use Rattle.miter.specs.Miters.{PairStands}
 use Rattle.fold.proofs.PassLaws.{from-first, differ-here, differ-later, apart-none}
 use borrow.Author.Needs.{needs}
 use Rattle.fold.proofs.pass.first_apart.Statement.{statement}
@@ -20,7 +20,7 @@ use Rattle.table.proofs.rows.representative.Reads as representative-reads
 abbrev Inv-loop : tie.InvT-loop
 Inv-loop text pair work outputs k₀ k =
     (k ≤ outputs)
-    × ((w : Lists text pair) → HoldsTable work (bothTable (w .left) (w .right)) → byReps (w .left) (w .right) ≡ repsApart (1 + k) (bothTable (w .left) (w .right)) (drop k (w .left .outs)) (drop k (map (movedTo (w .left)) (w .right .outs))))
+    × ((w : PairStands text pair) → HoldsTable work (bothTable (w .left) (w .right)) → byReps (w .left) (w .right) ≡ repsApart (1 + k) (bothTable (w .left) (w .right)) (drop k (w .left .outs)) (drop k (map (movedTo (w .left)) (w .right .outs))))
 
 abbrev μ-loop : tie.MeasureT-loop
 μ-loop text pair work outputs k₀ k = outputs - k

@@ -7,11 +7,11 @@ use lib.ListN.{length}
 use Rattle.model.specs.Miter.{gatesOf}
 use Rattle.table.specs.Rows.{entryOf, HoldsTable}
 use Rattle.table.specs.Buckets.{Indexed}
-use Rattle.miter.specs.Miters.{Lists}
+use Rattle.miter.specs.Miters.{PairStands}
 use Rattle.laws.specs.MiterOrder.{length-gates}
 use Rattle.fold_laws.specs.Table as model
 use Rattle.listing.specs.Listing.{gateMeant}
-use Rattle.miter.proofs.MiterLaws.{few-left, few-right}
+use Rattle.miter.proofs.MiterLaws.{within, few-left, few-right}
 use Rattle.fold.proofs.PassLaws.{after, after-none, after-all, gate-entered}
 use borrow.Author.Needs.{needs}
 use Rattle.fold.proofs.pass.fold.Statement.{statement}
@@ -25,19 +25,19 @@ use Rattle.table.proofs.buckets.insert.Reads as insert-reads
 
 abbrev Inv-loop : tie.InvT-loop
 Inv-loop text pair work₀ first gates nets k₀ work k =
-    (k ≤ gates) × (length work ≡ length work₀) × ((w : Lists text pair) → Indexed work nets (after (w .left .inputs) (gatesOf (w .left) (w .right)) k))
+    (k ≤ gates) × (length work ≡ length work₀) × (first ≡ 1 + pair .inputs) × ((w : PairStands text pair) → Indexed work nets (after (w .left .inputs) (gatesOf (w .left) (w .right)) k))
 
 abbrev μ-loop : tie.MeasureT-loop
 μ-loop text pair work₀ first gates nets k₀ work k = gates - k
 
-add-first : tie.Need-add-first Inv-loop μ-loop
-add-first c = search needs
+first-gate-requires : tie.Need-first-gate-requires Inv-loop μ-loop
+first-gate-requires c κs = within (c .before .before .pre .0)
 
 add-gates : tie.Need-add-gates Inv-loop μ-loop
 add-gates c = search needs
 
-add-nets : tie.Need-add-nets Inv-loop μ-loop
-add-nets c = search needs
+nets-requires : tie.Need-nets-requires Inv-loop μ-loop
+nets-requires c κs = within (c .before .before .before .before .pre .0)
 
 set-bases-requires : tie.Need-set-bases-requires Inv-loop μ-loop
 set-bases-requires c κs = search needs
@@ -46,6 +46,7 @@ loop-holds : tie.Need-loop-holds Inv-loop μ-loop
 loop-holds c = (
   omega arith,
   refl,
+  c .before .before .before .before .before .before .first-gate .ensures,
   λ w.
       subst (Indexed (c .before .before .set-bases .last .0) _) (ap (λ (i : ℕ). model.bases 0 (1 + i)) (sym (w .inputs)) ∙ sym (after-none (w .left .inputs) (gatesOf (w .left) (w .right))))
       (c .before .before .set-bases .ensures),
@@ -64,7 +65,7 @@ insert-requires : tie.Need-insert-requires Inv-loop μ-loop
 insert-requires c κs =
     let looped = c .before .before .before .before .before in
     let bases = looped .before .before .before in
-    let s = bases .before .before .before .before .before .before in
+    let s = bases .before .before .before .before .before .before .before in
     let l = looped .loop in
     let w = s .pre .0 in
     let same : length (bases .set-bases .last .0) ≡ length (now (s .args .work)) = search needs in
@@ -77,7 +78,7 @@ insert-requires c κs =
 add-k : tie.Need-add-k Inv-loop μ-loop
 add-k c =
     let looped = c .before .before .before .before .before .before .before .before in
-    let w = looped .before .before .before .before .before .before .before .before .before .pre .0 in
+    let w = looped .before .before .before .before .before .before .before .before .before .before .pre .0 in
     omega (arith, few-left w, few-right w)
 
 loop-less : tie.Need-loop-less Inv-loop μ-loop
@@ -91,22 +92,23 @@ loop-again c =
     let e = c .before .before .insert in (
       omega arith,
       (let s : length (e .last .0) ≡ length (l .work) = search needs in s) ∙ l .inv .1,
+      l .inv .2,
       λ w.
           gate-entered (w .left) (w .right) (w .alike) _ (l .k) _ (gateMeant (g .result)) (entryOf (m .result)) (l .work) (e .last .0)
-          (omega (arith, length-gates (w .left) (w .right) (w .alike), w .left-gates, w .right-gates)) (omega (arith, w .inputs)) (g .ensures w) (l .inv .2 w) (m .ensures) (e .ensures),
+          (omega (arith, length-gates (w .left) (w .right) (w .alike), w .left-gates, w .right-gates)) (omega (arith, w .inputs, l .inv .2)) (g .ensures w) (l .inv .3 w) (m .ensures) (e .ensures),
     )
 
 same-length : tie.Need-same-length Inv-loop μ-loop
 same-length c =
     let bases = c .before .before .before .before in
-    c .before .loop .inv .1 ∙ (let s : length (bases .set-bases .last .0) ≡ length (now (bases .before .before .before .before .before .before .args .work)) = search needs in s)
+    c .before .loop .inv .1 ∙ (let s : length (bases .set-bases .last .0) ≡ length (now (bases .before .before .before .before .before .before .before .args .work)) = search needs in s)
 
 returns : tie.Need-returns Inv-loop μ-loop
 returns c w =
     let l = c .before .loop in
     subst (HoldsTable (l .work))
     (after-all (w .left .inputs) (gatesOf (w .left) (w .right)) (l .k) (omega (arith, length-gates (w .left) (w .right) (w .alike), w .left-gates, w .right-gates)))
-    (l .inv .2 w .rows)
+    (l .inv .3 w .rows)
 
 pub fold-spec : {M : Type 1} → statement M
 fold-spec =
@@ -114,9 +116,9 @@ fold-spec =
     (tie.spec
     Inv-loop
     μ-loop
-    add-first
+    first-gate-requires
     add-gates
-    add-nets
+    nets-requires
     set-bases-requires
     loop-holds
     add-v

@@ -5,7 +5,7 @@ use native.Mathlib.Omega.{arith}
 use borrow.Author.Needs.{needs}
 use lib.ListN.{length}
 use Rattle.steps.specs.Progress.{Held}
-use Rattle.miter.specs.Miters.{Lists, gateCount, gatesUpTo}
+use Rattle.miter.specs.Miters.{PairStands, gateCount, gatesUpTo}
 use Rattle.steps.proofs.StepLaws.{few}
 use Rattle.miter.proofs.BeginLaws.{none-yet, variable-held, variable-short}
 use Rattle.miter.proofs.begin.write_variables.Statement.{statement}
@@ -25,7 +25,7 @@ Inv-loop text pair store₀ room end count₀ v₀ store count v =
     × (1 ≤ count)
     × (count ≤ room)
     × (length store ≡ length store₀)
-    × ((w : Lists text pair) (i : ℕ) → v ≡ 1 + pair .inputs + i → Held store (gatesUpTo (w .left) (w .right) i) × (length (gatesUpTo (w .left) (w .right) i) ≡ count))
+    × ((w : PairStands text pair) (i : ℕ) → v ≡ 1 + pair .inputs + i → Held store (gatesUpTo (w .left) (w .right) i) × (length (gatesUpTo (w .left) (w .right) i) ≡ count))
 
 abbrev μ-loop : tie.MeasureT-loop
 μ-loop text pair store₀ room end count₀ v₀ store count v = end - v

@@ -5,7 +5,7 @@ use native.Mathlib.Omega.{arith}
 use lib.ListN.{drop}
 use Rattle.model.specs.Miter.{gatesOf}
 use Rattle.laws.specs.MiterOrder.{length-gates}
-use Rattle.miter.specs.Miters.{Lists}
+use Rattle.miter.specs.Miters.{PairStands}
 use Rattle.miter.proofs.MiterLaws.{few-left, few-right}
 use Rattle.model.specs.Miter.{behind, firstZClause}
 use Rattle.miter.proofs.ClauseLaws.{few-each, from-first, behind-one, behind-all}
@@ -19,7 +19,7 @@ use Rattle.miter.proofs.clauses.behind.Reads as behind-reads
 
 abbrev Inv-loop : tie.InvT-loop
 Inv-loop text pair gates next₀ i₀ next i =
-    (i ≤ gates) × (next ≤ 2 + 4 * i) × ((w : Lists text pair) → firstZClause (w .left) (w .right) ≡ behind next (drop i (gatesOf (w .left) (w .right))))
+    (i ≤ gates) × (next ≤ 2 + 4 * i) × ((w : PairStands text pair) → firstZClause (w .left) (w .right) ≡ behind next (drop i (gatesOf (w .left) (w .right))))
 
 abbrev μ-loop : tie.MeasureT-loop
 μ-loop text pair gates next₀ i₀ next i = gates - i
