@@ -11,15 +11,13 @@ ghost use lib.ListN.{length};
 ghost use Rattle.model.specs.Checker as model;
 ghost use Rattle.checker.specs.Verdicts.{VerdictSays};
 
-pub const MOST_CLAUSES: usize = 65535;
-
 // How many clauses a store of so many numbers holds.
 fn capacity(numbers: usize) -> usize
     ensures { λ r. ⌜ r ≡ model.capacity numbers ⌝ }
 {
     let whole = numbers / Clause::WIDTH;
-    if MOST_CLAUSES < whole {
-        return MOST_CLAUSES;
+    if Clause::MOST < whole {
+        return Clause::MOST;
     }
     whole
 }

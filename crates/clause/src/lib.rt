@@ -19,6 +19,9 @@ impl Clause {
     // The most literals of a clause, and the numbers that it takes in the store.
     pub const WIDTH: usize = 8;
 
+    // The most clauses of a store.
+    pub const MOST: usize = 65535;
+
     pub fn of_one(x: Literal) -> Clause
         ensures { λ r. ⌜ Holds r (clauseOf (x .code ∷ [])) ⌝ }
     {

@@ -40,7 +40,7 @@ by-kind f g Unknown h = g h
 
 module _ (high low : ℕ) (hb : high < 256) (lb : low < 256) where
   -- bytes that are these digits
-  pub named : {spelt : ℕ} (a b : ℕ) → a < 256 → b < 256 → spelt ≡ 256 * high + low → spelt ≡ 256 * a + b → isDigit a ≡ true → isDigit b ≡ true → {kind : ℕ} → kind ≡ 16 * valueOf a + valueOf b
+  pub named : {spelt : ℕ} (a b : ℕ) → a < 256 → b < 256 → spelt ≡ 256 * low + high → spelt ≡ 256 * b + a → isDigit a ≡ true → isDigit b ≡ true → {kind : ℕ} → kind ≡ 16 * valueOf a + valueOf b
       → Spell high low kind
   named a b ha hb′ e q ia ib k =
       let h : high ≡ a = omega arith in
@@ -48,7 +48,7 @@ module _ (high low : ℕ) (hb : high < 256) (lb : low < 256) where
       rw (h, l) (record { high-digit = ia; low-digit = ib; spelt = k })
 
   -- digits that do not spell a number of the table
-  pub not-spelt : {spelt : ℕ} (p q : ℕ) → p < 16 → q < 16 → spelt ≡ 256 * high + low → (spelt ≡ 256 * digitOf p + digitOf q → ⊥) → isDigit high ≡ true → isDigit low ≡ true
+  pub not-spelt : {spelt : ℕ} (p q : ℕ) → p < 16 → q < 16 → spelt ≡ 256 * low + high → (spelt ≡ 256 * digitOf q + digitOf p → ⊥) → isDigit high ≡ true → isDigit low ≡ true
       → eqb (16 * valueOf high + valueOf low) (16 * p + q) ≡ false
   not-spelt p q hp hq e not ih il =
       let h = value-back high ih in

@@ -31,20 +31,20 @@ pub enum Kind {
     Unknown,
 }
 
-// The kind that two digits spell.
+// The kind that two digits spell. They are one number, the first digit lower, as they stand in memory: 0x3130 is '01'.
 fn spelt_kind(high: u8, low: u8) -> Kind
     ensures { λ r. ⌜ Named high low r ⌝ }
 {
-    let spelt = 256 * (high as u16) + (low as u16);
+    let spelt = 256 * (low as u16) + (high as u16);
     match spelt {
-        0x3031 => Kind::Header,
-        0x3032 => Kind::Gate(Op::And),
-        0x3033 => Kind::Gate(Op::Xor),
-        0x3034 => Kind::Output,
+        0x3130 => Kind::Header,
+        0x3230 => Kind::Gate(Op::And),
+        0x3330 => Kind::Gate(Op::Xor),
+        0x3430 => Kind::Output,
         0x3131 => Kind::Resolve,
-        0x3132 => Kind::Extend(Op::And),
-        0x3133 => Kind::Extend(Op::Xor),
-        0x3231 => Kind::Report,
+        0x3231 => Kind::Extend(Op::And),
+        0x3331 => Kind::Extend(Op::Xor),
+        0x3132 => Kind::Report,
         _ => Kind::Unknown,
     }
 }
