@@ -21,6 +21,10 @@ none-fault e = let z : _≡_ {A = ℕ} 0 1 = cc in omega arith
 pub found-fault : {f : Frame} {ls : List Line} {line number place : ℕ} → found f ls line ≡ fault number place → ⊥
 found-fault e = let z : _≡_ {A = ℕ} 0 1 = cc in omega arith
 
+-- and one has one frame
+pub found-same : {f g : Frame} {ls ms : List Line} {i j : ℕ} → found f ls i ≡ found g ms j → f ≡ g
+found-same e = cc
+
 -- ---- the cases
 
 -- no line is left

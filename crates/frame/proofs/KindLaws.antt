@@ -4,6 +4,8 @@ use mathlib.Core.Path.{_≡_, refl, sym, ap, _∙_}
 use mathlib.Core.List.{List, [], _∷_}
 use mathlib.Core.Bool.{Bool, true, false, cond}
 use native.Mathlib.Omega.{arith}
+use types.Run.{OneOf, miss}
+use denote.Enum.Declared.{tagOf}
 use lib.ListN.{length, take, drop, getD, length-drop}
 use lib.Dec.{eqb, ltb}
 use borrow.Author.Tests.{ltb-true, ltb-false, eqb-true, eqb-false, ne-eqb}
@@ -11,14 +13,17 @@ use Rattle.model.specs.Answers.{Answer}
 use Rattle.model.specs.Answers.Answer.{ok, refused}
 use Rattle.model.specs.Lines as model
 use Rattle.model.specs.Lines.{isDigit, digitOf, lineFeed, lines}
-use Rattle.model.specs.Frames.{Frame, widths, isKind, number, oneByte, decodeAs, decode}
+use Rattle.model.specs.Frames.{Frame, widths, isKind, number, oneByte, decodeAs, decode, outputKind}
 use Rattle.laws.specs.Digits.{byte-read}
 use Rattle.laws.specs.Answers.{ok-injective, refused-not-ok, guard-ok}
 use Rattle.digits.specs.Digits.{valueOf, values, run, numberAt}
 use Rattle.digits.proofs.DigitLaws.{value-back, run-more, run-stop, byte-number}
+use Rattle.frame.proofs.kinds.Kind as kind-type
+use Rattle.frame.specs.declared.Op.{Op}
+use Rattle.frame.specs.declared.Op.the-variants.{And, Xor}
 use Rattle.frame.specs.declared.kinds.Kind.{Kind}
 use Rattle.frame.specs.declared.kinds.Kind.the-variants.{Header, Gate, Output, Resolve, Extend, Report, Unknown}
-use Rattle.frame.specs.Frames.{first, firstIn}
+use Rattle.frame.specs.Frames.{first, firstIn, gateKind}
 use Rattle.frame.specs.Frames.First.{found}
 use Rattle.frame.specs.Kinds.{ByKind, Spell, Named, IsKind, KindAt, KindSays, Unframed}
 use Rattle.frame.proofs.DecodeLaws.{no-kind, short}
@@ -158,3 +163,36 @@ module _ (text : List ℕ) (at line : ℕ) {f : Frame} {ls : List model.Line} {n
   found-framed u =
       let d = found-decoded in
       refused-not-ok (u (run (drop at text)) line refl (d .inside) (d .feed) ∙ d .frame)
+
+  -- so a gate's line is of no other kind
+  pub only-gate : (op : Op) → f .kind ≡ gateKind op → (k : Kind) → OneOf (0 ∷ 2 ∷ 3 ∷ 4 ∷ 5 ∷ 6 ∷ []) (tagOf kind-type.the-type k) → KindSays text at k → ⊥
+  only-gate op is k t says = go op is k t says
+    where
+      low : (op : Op) → f .kind ≡ gateKind op → {kind : ℕ} → KindAt text at kind → (2 ≤ kind) × (kind ≤ 3)
+      low And is k = let e = found-kind k in (omega arith, omega arith)
+      low Xor is k = let e = found-kind k in (omega arith, omega arith)
+
+      go : (op : Op) → f .kind ≡ gateKind op → (k : Kind) → OneOf (0 ∷ 2 ∷ 3 ∷ 4 ∷ 5 ∷ 6 ∷ []) (tagOf kind-type.the-type k) → KindSays text at k → ⊥
+      go op is Header t s = omega (arith, low op is s)
+      go op is (Gate o) t s = miss (0 ∷ 2 ∷ 3 ∷ 4 ∷ 5 ∷ 6 ∷ []) 1 tt t
+      go op is Output t s = omega (arith, low op is s)
+      go op is Resolve t s = omega (arith, low op is s)
+      go op is (Extend And) t s = omega (arith, low op is s)
+      go op is (Extend Xor) t s = omega (arith, low op is s)
+      go op is Report t s = omega (arith, low op is s)
+      go op is Unknown t s = found-framed s
+
+  -- nor an output's
+  pub only-output : f .kind ≡ outputKind → (k : Kind) → OneOf (0 ∷ 1 ∷ 3 ∷ 4 ∷ 5 ∷ 6 ∷ []) (tagOf kind-type.the-type k) → KindSays text at k → ⊥
+  only-output is k t says = go k t says
+    where
+      go : (k : Kind) → OneOf (0 ∷ 1 ∷ 3 ∷ 4 ∷ 5 ∷ 6 ∷ []) (tagOf kind-type.the-type k) → KindSays text at k → ⊥
+      go Header t s = omega (arith, found-kind s)
+      go (Gate And) t s = omega (arith, found-kind s)
+      go (Gate Xor) t s = omega (arith, found-kind s)
+      go Output t s = miss (0 ∷ 1 ∷ 3 ∷ 4 ∷ 5 ∷ 6 ∷ []) 2 tt t
+      go Resolve t s = omega (arith, found-kind s)
+      go (Extend And) t s = omega (arith, found-kind s)
+      go (Extend Xor) t s = omega (arith, found-kind s)
+      go Report t s = omega (arith, found-kind s)
+      go Unknown t s = found-framed s

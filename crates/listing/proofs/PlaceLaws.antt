@@ -5,12 +5,11 @@ use mathlib.Core.Path.{_≡_, refl, sym, ap, _∙_}
 use mathlib.Core.Bool.{Bool, true, false, cond}
 use mathlib.Core.List.{List, [], _∷_}
 use native.Mathlib.Omega.{arith}
-use types.Run.{OneOf, miss}
+use types.Run.{OneOf}
 use denote.Enum.Declared.{tagOf}
 use lib.ListN.{length, drop, getD, drop-of-length-le}
 use lib.Seq.{drop-drop}
 use lib.Dec.{eqb}
-use Rattle.model.specs.Lines as model-line
 use Rattle.model.specs.Lines.{lines}
 use Rattle.model.specs.Frames as model
 use Rattle.model.specs.Frames.{andKind, xorKind, outputKind}
@@ -21,14 +20,14 @@ use Rattle.laws.specs.Pairs.{isXor}
 use Rattle.laws.specs.ListText.{Stands, FirstReads, gateFrame, outputFrame, headerBytes, gateBytes, outputBytes, gate-again}
 use Rattle.frame.proofs.kinds.Kind as kind-type
 use Rattle.frame.specs.declared.kinds.Kind.{Kind}
-use Rattle.frame.specs.declared.kinds.Kind.the-variants.{Header, Gate, Output, Resolve, Extend, Report, Unknown}
 use Rattle.frame.specs.declared.Op.{Op}
 use Rattle.frame.specs.declared.Op.the-variants.{And, Xor}
 use Rattle.frame.specs.Frames.{opOf, first, gateKind}
 use Rattle.frame.specs.Frames.First.{found}
 use Rattle.frame.specs.Kinds.{KindAt, KindSays, Unframed}
 use Rattle.frame.specs.Fields.{LineAt}
-use Rattle.frame.proofs.KindLaws.{found-kind, found-framed}
+use Rattle.frame.proofs.FirstLaws.{found-same}
+use Rattle.frame.proofs.KindLaws.{found-kind, found-framed, only-gate, only-output}
 use Rattle.listing.specs.Listing.{noGate}
 
 -- ---- a frame at a place
@@ -52,44 +51,17 @@ module _ (text : List ℕ) (place : ℕ) {f : model.Frame} (r : FirstReads (drop
     pub framed-there : Unframed text place → ⊥
     framed-there u = found-framed text place 1 i found-there u
 
-    -- its kind is one of the table, and no other
-    pub only-gate : (b : Bool) → f .kind ≡ cond b xorKind andKind → (k : Kind) → OneOf (0 ∷ 2 ∷ 3 ∷ 4 ∷ 5 ∷ 6 ∷ []) (tagOf kind-type.the-type k) → KindSays text place k → ⊥
-    only-gate b e k t says = go k t says
-      where
-        not : (b : Bool) → f .kind ≡ cond b xorKind andKind → {kind : ℕ} → KindAt text place kind → (kind ≡ andKind → ⊥) → (kind ≡ xorKind → ⊥) → ⊥
-        not true e k _ x = x (sym (kind-there k) ∙ e)
-        not false e k a _ = a (sym (kind-there k) ∙ e)
+    -- its kind is no other
+    pub gate-there : (b : Bool) → f .kind ≡ cond b xorKind andKind → (k : Kind) → OneOf (0 ∷ 2 ∷ 3 ∷ 4 ∷ 5 ∷ 6 ∷ []) (tagOf kind-type.the-type k) → KindSays text place k → ⊥
+    gate-there true e k t says = only-gate text place 1 i found-there Xor e k t says
+    gate-there false e k t says = only-gate text place 1 i found-there And e k t says
 
-        go : (k : Kind) → OneOf (0 ∷ 2 ∷ 3 ∷ 4 ∷ 5 ∷ 6 ∷ []) (tagOf kind-type.the-type k) → KindSays text place k → ⊥
-        go Header t s = not b e s (λ x. omega arith) (λ x. omega arith)
-        go (Gate op) t s = miss (0 ∷ 2 ∷ 3 ∷ 4 ∷ 5 ∷ 6 ∷ []) 1 tt t
-        go Output t s = not b e s (λ x. omega arith) (λ x. omega arith)
-        go Resolve t s = not b e s (λ x. omega arith) (λ x. omega arith)
-        go (Extend And) t s = not b e s (λ x. omega arith) (λ x. omega arith)
-        go (Extend Xor) t s = not b e s (λ x. omega arith) (λ x. omega arith)
-        go Report t s = not b e s (λ x. omega arith) (λ x. omega arith)
-        go Unknown t s = framed-there s
-
-    pub only-output : (k : Kind) → OneOf (0 ∷ 1 ∷ 3 ∷ 4 ∷ 5 ∷ 6 ∷ []) (tagOf kind-type.the-type k) → KindSays text place k → f .kind ≡ outputKind → ⊥
-    only-output k t says e = go k t says
-      where
-        go : (k : Kind) → OneOf (0 ∷ 1 ∷ 3 ∷ 4 ∷ 5 ∷ 6 ∷ []) (tagOf kind-type.the-type k) → KindSays text place k → ⊥
-        go Header t s = omega (arith, kind-there s)
-        go (Gate And) t s = omega (arith, kind-there s)
-        go (Gate Xor) t s = omega (arith, kind-there s)
-        go Output t s = miss (0 ∷ 1 ∷ 3 ∷ 4 ∷ 5 ∷ 6 ∷ []) 2 tt t
-        go Resolve t s = omega (arith, kind-there s)
-        go (Extend And) t s = omega (arith, kind-there s)
-        go (Extend Xor) t s = omega (arith, kind-there s)
-        go Report t s = omega (arith, kind-there s)
-        go Unknown t s = framed-there s
+    pub output-there : f .kind ≡ outputKind → (k : Kind) → OneOf (0 ∷ 1 ∷ 3 ∷ 4 ∷ 5 ∷ 6 ∷ []) (tagOf kind-type.the-type k) → KindSays text place k → ⊥
+    output-there e k t says = only-output text place 1 i found-there e k t says
 
   -- the fields that are read there are its own
   pub line-there : {bytes kind : ℕ} {fields : List ℕ} → LineAt text place bytes kind fields → record { kind = kind; fields = fields } ≡ f
-  line-there l = same (l .framed 1 ∙ sym found-there)
-    where
-      same : {g h : model.Frame} {ls ms : List model-line.Line} {i j : ℕ} → found g ls i ≡ found h ms j → g ≡ h
-      same e = cc
+  line-there l = found-same (l .framed 1 ∙ sym found-there)
 
 -- ---- gates and outputs of a list
 

@@ -72,9 +72,8 @@ pub record GateRead (text : List ℕ) (c : Cursor) (net : ℕ) (next : Cursor) :
   pub gate : Gate
   pub reads : (k m : ℕ) (n : Netlist) → size n ≡ net → readGates (suc k) m n (from text c) (c .line) ≡ readGates k m (addGate n gate) (from text next) (next .line)
 
-abbrev pub GateSays : List ℕ → Cursor → ℕ → behind.Behind → Type 0
-GateSays text c net (behind-case.At next) = GateRead text c net next
-GateSays text c net (behind-case.Refused r) = (k m : ℕ) (n : Netlist) → size n ≡ net → readGates (suc k) m n (from text c) (c .line) ≡ answerOf r
+abbrev pub GateRefused : List ℕ → Cursor → ℕ → Refusal → Type 0
+GateRefused text c net r = (k m : ℕ) (n : Netlist) → size n ≡ net → readGates (suc k) m n (from text c) (c .line) ≡ answerOf r
 
 -- The next output of every list with so many nets.
 pub record OutputRead (text : List ℕ) (c : Cursor) (nets : ℕ) (next : Cursor) : Type 0 where
@@ -82,9 +81,8 @@ pub record OutputRead (text : List ℕ) (c : Cursor) (nets : ℕ) (next : Cursor
   pub literal : ℕ
   pub reads : (k : ℕ) (n : Netlist) → size n ≡ nets → readOutputs (suc k) n (from text c) (c .line) ≡ readOutputs k (addOutput n literal) (from text next) (next .line)
 
-abbrev pub OutputSays : List ℕ → Cursor → ℕ → behind.Behind → Type 0
-OutputSays text c nets (behind-case.At next) = OutputRead text c nets next
-OutputSays text c nets (behind-case.Refused r) = (k : ℕ) (n : Netlist) → size n ≡ nets → readOutputs (suc k) n (from text c) (c .line) ≡ answerOf r
+abbrev pub OutputRefused : List ℕ → Cursor → ℕ → Refusal → Type 0
+OutputRefused text c nets r = (k : ℕ) (n : Netlist) → size n ≡ nets → readOutputs (suc k) n (from text c) (c .line) ≡ answerOf r
 
 -- ---- several lines
 

@@ -3,7 +3,6 @@
 use crate::Behind;
 use crate::Counts;
 use crate::Part;
-use crate::plain::is_below;
 use crate::plain::plain_gates;
 use crate::plain::plain_outputs;
 use frame::Cursor;
@@ -17,7 +16,8 @@ ghost use mathlib.Core.Path.{_≡_};
 ghost use Prim.Native.Nat.{_+_, _≤_};
 ghost use Rattle.model.specs.Limits.{mostInputs, mostGates, mostOutputs};
 ghost use Rattle.frame.specs.Frames.{Inside};
-ghost use Rattle.netlist.specs.Says.{missingOf, HeaderSays, GateSays, GatesSay, OutputSays, OutputsSay, BodySays, EndSays};
+ghost use Rattle.netlist.specs.Says.{missingOf, HeaderSays, GateRefused, GatesSay, OutputRefused, OutputsSay, BodySays, EndSays};
+ghost use Rattle.netlist.specs.Plain.{NoGate, NoOutput};
 
 pub const MOST_INPUTS: u8 = 64;
 
@@ -96,56 +96,29 @@ pub fn read_header(text: &[u8], cursor: Cursor) -> Part
     )
 }
 
-// The gate that is this net: it reads only nets below its own.
-pub fn read_gate(text: &[u8], cursor: Cursor, net: usize) -> Behind
-    requires { ⌜ Inside (now text) cursor ⌝ }
-    ensures { λ r. ⌜ GateSays (now (text .entry)) cursor net r ⌝ }
+// The refusal of the line where the gate that is this net does not stand: of a gate that reads a net that is not below, 7.
+fn gate_refusal(text: &[u8], cursor: Cursor, net: usize) -> Refusal
+    requires { ⌜ Inside (now text) cursor × NoGate (now text) (cursor .at) net ⌝ }
+    ensures { λ r. ⌜ GateRefused (now (text .entry)) cursor net r ⌝ }
 {
     let line = cursor.line;
     let got = read_line(text, cursor);
-    let Line::Read(frame, next) = got else {
-        return Behind::Refused(missing(got, line));
+    let Line::Read(frame, _) = got else {
+        return missing(got, line);
     };
-    let Frame::Gate { op: _, x, y } = frame else {
-        return Behind::Refused(Refusal {
+    let Frame::Gate { op: _, x: _, y: _ } = frame else {
+        return Refusal {
             number: Refusal::FRAME,
             line,
-        });
-    };
-    if !is_below(net, x) {
-        return Behind::Refused(Refusal {
-            number: Refusal::NET,
-            line,
-        });
-    }
-    if !is_below(net, y) {
-        return Behind::Refused(Refusal {
-            number: Refusal::NET,
-            line,
-        });
-    }
-    Behind::At(next)
-}
-
-// So many gates, of which the first is this net, one by one.
-fn each_gate(text: &[u8], cursor: Cursor, first: usize, count: usize) -> Behind
-    requires { ⌜ Inside (now text) cursor × (first + count ≤ 1 + mostInputs + mostGates) ⌝ }
-    ensures { λ r. ⌜ GatesSay (now (text .entry)) cursor first count r ⌝ }
-{
-    let mut c = cursor;
-    let mut i: usize = 0;
-    while i < count {
-        let gate = read_gate(text, c, first + i);
-        let Behind::At(next) = gate else {
-            return gate;
         };
-        c = next;
-        i += 1;
+    };
+    Refusal {
+        number: Refusal::NET,
+        line,
     }
-    Behind::At(c)
 }
 
-// So many gates, of which the first is this net: those of the row, and the others one by one.
+// So many gates, of which the first is this net.
 pub fn read_gates(text: &[u8], cursor: Cursor, first: usize, count: usize) -> Behind
     requires { ⌜ Inside (now text) cursor × (first ≤ 1 + mostInputs) × (count ≤ mostGates) ⌝ }
     ensures { λ r. ⌜ GatesSay (now (text .entry)) cursor first count r ⌝ }
@@ -155,56 +128,35 @@ pub fn read_gates(text: &[u8], cursor: Cursor, first: usize, count: usize) -> Be
         at: cursor.at + GATE_BYTES * known,
         line: cursor.line + known,
     };
-    if known == count {
-        return Behind::At(rest);
+    if known < count {
+        return Behind::Refused(gate_refusal(text, rest, first + known));
     }
-    each_gate(text, rest, first + known, count - known)
+    Behind::At(rest)
 }
 
-// An output of a list with so many nets: it reads any of them.
-pub fn read_output(text: &[u8], cursor: Cursor, nets: usize) -> Behind
-    requires { ⌜ Inside (now text) cursor ⌝ }
-    ensures { λ r. ⌜ OutputSays (now (text .entry)) cursor nets r ⌝ }
+// The refusal of the line where no output of a list with so many nets stands: of an output that reads another net, 7.
+fn output_refusal(text: &[u8], cursor: Cursor, nets: usize) -> Refusal
+    requires { ⌜ Inside (now text) cursor × NoOutput (now text) (cursor .at) nets ⌝ }
+    ensures { λ r. ⌜ OutputRefused (now (text .entry)) cursor nets r ⌝ }
 {
     let line = cursor.line;
     let got = read_line(text, cursor);
-    let Line::Read(frame, next) = got else {
-        return Behind::Refused(missing(got, line));
+    let Line::Read(frame, _) = got else {
+        return missing(got, line);
     };
-    let Frame::Output { literal } = frame else {
-        return Behind::Refused(Refusal {
+    let Frame::Output { literal: _ } = frame else {
+        return Refusal {
             number: Refusal::FRAME,
             line,
-        });
-    };
-    if !is_below(nets, literal) {
-        return Behind::Refused(Refusal {
-            number: Refusal::NET,
-            line,
-        });
-    }
-    Behind::At(next)
-}
-
-// So many outputs, one by one.
-fn each_output(text: &[u8], cursor: Cursor, nets: usize, count: usize) -> Behind
-    requires { ⌜ Inside (now text) cursor ⌝ }
-    ensures { λ r. ⌜ OutputsSay (now (text .entry)) cursor nets count r ⌝ }
-{
-    let mut c = cursor;
-    let mut k: usize = 0;
-    while k < count {
-        let output = read_output(text, c, nets);
-        let Behind::At(next) = output else {
-            return output;
         };
-        c = next;
-        k += 1;
+    };
+    Refusal {
+        number: Refusal::NET,
+        line,
     }
-    Behind::At(c)
 }
 
-// So many outputs: those of the row, and the others one by one.
+// So many outputs of a list with so many nets.
 pub fn read_outputs(text: &[u8], cursor: Cursor, nets: usize, count: usize) -> Behind
     requires { ⌜ Inside (now text) cursor × (count ≤ mostOutputs) ⌝ }
     ensures { λ r. ⌜ OutputsSay (now (text .entry)) cursor nets count r ⌝ }
@@ -214,10 +166,10 @@ pub fn read_outputs(text: &[u8], cursor: Cursor, nets: usize, count: usize) -> B
         at: cursor.at + OUTPUT_BYTES * known,
         line: cursor.line + known,
     };
-    if known == count {
-        return Behind::At(rest);
+    if known < count {
+        return Behind::Refused(output_refusal(text, rest, nets));
     }
-    each_output(text, rest, nets, count - known)
+    Behind::At(rest)
 }
 
 // The gates and the outputs behind a header.

@@ -17,7 +17,7 @@ ghost use Rattle.model.specs.Nets.{isBelow};
 ghost use Rattle.netlist.specs.Plain.{PlainGate, PlainGates, PlainOutput, PlainOutputs};
 
 // Whether a literal is over a net below this one.
-pub fn is_below(net: usize, literal: u16) -> bool
+fn is_below(net: usize, literal: u16) -> bool
     ensures { λ r. ⌜ r ≡ isBelow net literal ⌝ }
 {
     (Literal::of(literal).variable() as usize) < net

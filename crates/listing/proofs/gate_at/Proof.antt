@@ -11,7 +11,7 @@ use Rattle.frame.specs.Frames.{gateKind}
 use Rattle.listing.specs.Listing.{noGate}
 use Rattle.frame.proofs.WriteLaws.{operands-widths}
 use mathlib.Core.Bool.{false}
-use Rattle.listing.proofs.PlaceLaws.{beyond, framed-there, only-gate, line-there, gate-place, gate-is}
+use Rattle.listing.proofs.PlaceLaws.{beyond, framed-there, gate-there, line-there, gate-place, gate-is}
 use borrow.Author.Needs.{needs}
 use Rattle.listing.proofs.gate_at.Statement.{statement}
 use Rattle.listing.proofs.gate_at.Tie as tie
@@ -51,7 +51,7 @@ returns-2 : tie.Need-returns-2
 returns-2 c =
     let kind = c .before .before .kind-at in
     let a = c .before .before .before .before .before .args in
-    λ n s h. absurd (only-gate (now (a .text)) (a .at + headerBytes + gateBytes * a .k) (gate-place (now (a .text)) (a .at) s (a .k) h) (omega arith) (isXor (getD (n .gates) (a .k) noGate .op)) refl (kind .result) (c .before .match .keys2) (kind .ensures))
+    λ n s h. absurd (gate-there (now (a .text)) (a .at + headerBytes + gateBytes * a .k) (gate-place (now (a .text)) (a .at) s (a .k) h) (omega arith) (isXor (getD (n .gates) (a .k) noGate .op)) refl (kind .result) (c .before .match .keys2) (kind .ensures))
 
 operands-at-requires : tie.Need-operands-at-requires
 operands-at-requires c κs = search needs

@@ -8,7 +8,7 @@ use lib.ListN.{getD}
 use Rattle.laws.specs.Pairs.{isXor}
 use Rattle.laws.specs.ListText.{headerBytes, gateBytes}
 use Rattle.listing.specs.Listing.{noGate}
-use Rattle.listing.proofs.PlaceLaws.{beyond, kind-there, only-gate, gate-place, op-is}
+use Rattle.listing.proofs.PlaceLaws.{beyond, kind-there, gate-there, gate-place, op-is}
 use borrow.Author.Needs.{needs}
 use Rattle.listing.proofs.op_at.Statement.{statement}
 use Rattle.listing.proofs.op_at.Tie as tie
@@ -40,7 +40,7 @@ returns-2 : tie.Need-returns-2
 returns-2 c =
     let kind = c .before .kind-at in
     let a = c .before .before .before .before .args in
-    λ n s h. absurd (only-gate (now (a .text)) (a .at + headerBytes + gateBytes * a .k) (gate-place (now (a .text)) (a .at) s (a .k) h) (omega arith) (isXor (getD (n .gates) (a .k) noGate .op)) refl (kind .result) (c .match .keys2) (kind .ensures))
+    λ n s h. absurd (gate-there (now (a .text)) (a .at + headerBytes + gateBytes * a .k) (gate-place (now (a .text)) (a .at) s (a .k) h) (omega arith) (isXor (getD (n .gates) (a .k) noGate .op)) refl (kind .result) (c .match .keys2) (kind .ensures))
 
 returns-3 : tie.Need-returns-3
 returns-3 c =

@@ -5,7 +5,7 @@ use native.Mathlib.Omega.{arith}
 use denote.Ref.{now}
 use Rattle.model.specs.Frames.{Frame, field, outputKind, widths}
 use Rattle.laws.specs.ListText.{headerBytes, gateBytes, outputBytes}
-use Rattle.listing.proofs.PlaceLaws.{beyond, framed-there, only-output, line-there, output-place}
+use Rattle.listing.proofs.PlaceLaws.{beyond, framed-there, output-there, line-there, output-place}
 use borrow.Author.Needs.{needs}
 use Rattle.listing.proofs.output_at.Statement.{statement}
 use Rattle.listing.proofs.output_at.Tie as tie
@@ -44,7 +44,7 @@ returns-2 : tie.Need-returns-2
 returns-2 c =
     let kind = c .before .kind-at in
     let a = c .before .before .before .before .args in
-    λ n s m h. absurd (only-output (now (a .text)) (a .at + headerBytes + gateBytes * a .gates + outputBytes * a .k) (output-place (now (a .text)) (a .at) s (a .k) (a .gates) m h) (omega arith) (kind .result) (c .match .keys2) (kind .ensures) refl)
+    λ n s m h. absurd (output-there (now (a .text)) (a .at + headerBytes + gateBytes * a .gates + outputBytes * a .k) (output-place (now (a .text)) (a .at) s (a .k) (a .gates) m h) (omega arith) refl (kind .result) (c .match .keys2) (kind .ensures))
 
 output-at-requires : tie.Need-output-at-requires
 output-at-requires c κs = search needs

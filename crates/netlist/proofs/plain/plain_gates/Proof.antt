@@ -2,10 +2,10 @@
 use Prim.Native.Nat.{_+_, _-_, _≤_}
 use native.Mathlib.Omega.{arith}
 use borrow.Author.Needs.{needs}
-use borrow.Author.Tests.{not-false}
+use borrow.Author.Tests.{not-true, not-false}
 use denote.Ref.{now}
 use Rattle.model.specs.Limits.{mostInputs, mostGates}
-use Rattle.netlist.specs.Plain.{PlainGates}
+use Rattle.netlist.specs.Plain.{Row}
 use Rattle.netlist.proofs.PlainLaws.{row-of-none, row-place, row-more}
 use Rattle.netlist.proofs.plain.plain_gates.Statement.{statement}
 use Rattle.netlist.proofs.plain.plain_gates.Tie as tie
@@ -14,7 +14,7 @@ use Rattle.netlist.proofs.plain.plain_gates.Lts as lts
 use Rattle.netlist.proofs.plain.plain_gate.Reads as plain-gate-reads
 
 abbrev Inv-loop : tie.InvT-loop
-Inv-loop text at first count i₀ i = (first ≤ 1 + mostInputs) × (count ≤ mostGates) × PlainGates text at first count i
+Inv-loop text at first count i₀ i = (first ≤ 1 + mostInputs) × (count ≤ mostGates) × Row text at first count i
 
 abbrev μ-loop : tie.MeasureT-loop
 μ-loop text at first count i₀ i = count - i
@@ -44,7 +44,7 @@ plain-gate-requires c κs =
     row-place (now (a .text)) (a .at) (a .first) (a .count) (l .i) (l .inv .2)
 
 returns : tie.Need-returns Inv-loop μ-loop
-returns c = c .before .before .before .loop .inv .2
+returns c = (c .before .before .before .loop .inv .2, λ _. rw (not-true (c .before .plain-gate .result) (c .if1 .taken)) at (c .before .plain-gate .ensures))
 
 add-i : tie.Need-add-i Inv-loop μ-loop
 add-i c = search needs
@@ -59,7 +59,7 @@ loop-again c =
     (l .inv .0, l .inv .1, row-more (now (a .text)) (a .at) (a .first) (a .count) (l .i) (l .inv .2) (omega arith) (rw (not-false (c .before .plain-gate .result) (c .if1 .left)) at (c .before .plain-gate .ensures)))
 
 returns-2 : tie.Need-returns-2 Inv-loop μ-loop
-returns-2 c = c .before .loop .inv .2
+returns-2 c = (c .before .loop .inv .2, λ h. absurd (omega arith))
 
 pub plain-gates-spec : {M : Type 1} → statement M
 plain-gates-spec =

@@ -1,8 +1,8 @@
--- The line is an output's, and its literal is over a net of the list (`plain-output`).
+-- The line is an output's, and its literal is over a net of the list; or it is not so (`PlainLaws`).
 use mathlib.Core.Path.{refl}
 use denote.Ref.{now}
 use Rattle.model.specs.Frames.{outputKind, widths}
-use Rattle.netlist.proofs.PlainLaws.{plain-output}
+use Rattle.netlist.proofs.PlainLaws.{not-output, refused-output, plain-output}
 use borrow.Author.Needs.{needs}
 use Rattle.netlist.proofs.plain.plain_output.Statement.{statement}
 use Rattle.netlist.proofs.plain.plain_output.Tie as tie
@@ -19,7 +19,10 @@ enum-told : tie.Need-enum-told
 enum-told c = search needs
 
 returns : tie.Need-returns
-returns c = search needs
+returns c =
+    let kind = c .before .kind-at in
+    let start = c .before .before .before in
+    not-output (now (start .args .text)) (start .args .at) (start .pre) (kind .result) (c .match .keys2) (kind .ensures) (start .args .nets)
 
 output-at-requires : tie.Need-output-at-requires
 output-at-requires c κs = search needs
@@ -31,7 +34,11 @@ enum-told-2 : tie.Need-enum-told-2
 enum-told-2 c = search needs
 
 returns-2 : tie.Need-returns-2
-returns-2 c = search needs
+unfolding widths
+returns-2 c =
+    let known = c .before .before .before in
+    let start = known .before .before .before .before in
+    refused-output (now (start .args .text)) (start .args .at) (start .pre) (rw (c .enum-told2 .given .1) at (c .before .before .output-at .ensures) outputKind (rw (known .enum-told .given .1) at (known .before .before .kind-at .ensures)) refl) (start .args .nets)
 
 is-below-requires : tie.Need-is-below-requires
 is-below-requires c κs = search needs

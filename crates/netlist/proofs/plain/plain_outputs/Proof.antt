@@ -2,10 +2,10 @@
 use Prim.Native.Nat.{_-_, _≤_}
 use native.Mathlib.Omega.{arith}
 use borrow.Author.Needs.{needs}
-use borrow.Author.Tests.{not-false}
+use borrow.Author.Tests.{not-true, not-false}
 use denote.Ref.{now}
 use Rattle.model.specs.Limits.{mostOutputs}
-use Rattle.netlist.specs.Plain.{PlainOutputs}
+use Rattle.netlist.specs.Plain.{OutputRow}
 use Rattle.netlist.proofs.PlainLaws.{outputs-of-none, outputs-place, outputs-one-more}
 use Rattle.netlist.proofs.plain.plain_outputs.Statement.{statement}
 use Rattle.netlist.proofs.plain.plain_outputs.Tie as tie
@@ -14,7 +14,7 @@ use Rattle.netlist.proofs.plain.plain_outputs.Lts as lts
 use Rattle.netlist.proofs.plain.plain_output.Reads as plain-output-reads
 
 abbrev Inv-loop : tie.InvT-loop
-Inv-loop text at nets count i₀ i = (count ≤ mostOutputs) × PlainOutputs text at nets count i
+Inv-loop text at nets count i₀ i = (count ≤ mostOutputs) × OutputRow text at nets count i
 
 abbrev μ-loop : tie.MeasureT-loop
 μ-loop text at nets count i₀ i = count - i
@@ -41,7 +41,7 @@ plain-output-requires c κs =
     outputs-place (now (a .text)) (a .at) (a .nets) (a .count) (l .i) (l .inv .1)
 
 returns : tie.Need-returns Inv-loop μ-loop
-returns c = c .before .before .before .loop .inv .1
+returns c = (c .before .before .before .loop .inv .1, λ _. rw (not-true (c .before .plain-output .result) (c .if1 .taken)) at (c .before .plain-output .ensures))
 
 add-i : tie.Need-add-i Inv-loop μ-loop
 add-i c = search needs
@@ -56,7 +56,7 @@ loop-again c =
     (l .inv .0, outputs-one-more (now (a .text)) (a .at) (a .nets) (a .count) (l .i) (l .inv .1) (omega arith) (rw (not-false (c .before .plain-output .result) (c .if1 .left)) at (c .before .plain-output .ensures)))
 
 returns-2 : tie.Need-returns-2 Inv-loop μ-loop
-returns-2 c = c .before .loop .inv .1
+returns-2 c = (c .before .loop .inv .1, λ h. absurd (omega arith))
 
 pub plain-outputs-spec : {M : Type 1} → statement M
 plain-outputs-spec =
