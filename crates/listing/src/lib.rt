@@ -63,8 +63,7 @@ pub fn op_at(text: &[u8], at: usize, k: usize) -> Op
     if text.len() < place {
         return Op::And;
     }
-    let kind = kind_at(text, place);
-    let Kind::Gate(op) = kind else {
+    let Kind::Gate(op) = kind_at(text, place) else {
         return Op::And;
     };
     op
