@@ -7,15 +7,10 @@ use mathlib.Core.Bool.{Bool, true, false}
 use native.Mathlib.Omega.{arith}
 use lib.ListN.{length, take, drop, getD, length-drop}
 use lib.Seq.{length-take-le, drop-drop}
-use lib.Dec.{ltb}
-use borrow.Author.Tests.{ltb-true, ltb-false}
-use Rattle.model.specs.Answers.Answer.{refused}
 use Rattle.model.specs.Lines.{lineFeed, lines}
-use Rattle.model.specs.Frames.{widths, isKind, total, number, oneByte, twoBytes, decode}
-use Rattle.digits.specs.Digits.{valueOf, values, run, numberAt, byteLimit, Spelt}
+use Rattle.model.specs.Frames.{widths, isKind, total, number, oneByte}
+use Rattle.digits.specs.Digits.{valueOf, values, run, numberAt, Spelt}
 use Rattle.digits.proofs.DigitLaws.{run-stop}
-use Rattle.frame.specs.declared.Op.{Op}
-use Rattle.frame.specs.declared.Op.the-variants.{And, Xor}
 use Rattle.frame.specs.declared.Cursor.{Cursor}
 use Rattle.frame.specs.declared.Frame.{Frame}
 use Rattle.frame.specs.declared.Line.{Line}
@@ -24,7 +19,7 @@ use Rattle.frame.specs.declared.read.Look.{Look}
 use Rattle.frame.specs.declared.read.Look.the-variants.{Is, Other}
 use Rattle.frame.specs.Frames.{frameOf, first, Inside, Ahead, NoFrame}
 use Rattle.frame.specs.Frames.First.{found}
-use Rattle.frame.specs.Kinds.{operandsKind, KindAt, Unframed}
+use Rattle.frame.specs.Kinds.{KindAt, Unframed}
 use Rattle.frame.specs.Fields.{Feeds, LineAt, Looked}
 use Rattle.frame.proofs.DecodeLaws.{fieldsAt, whole, wrong-length}
 use Rattle.frame.proofs.LineLaws.{read-whole}

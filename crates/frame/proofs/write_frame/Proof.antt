@@ -31,8 +31,10 @@ same-length c = search needs
 
 returns : tie.Need-returns
 returns c =
-    let a = c .before .before .before .before .before .before .before .args in
-    write-unfit (frameOf (a .frame)) (length (now (a .out))) (sym (c .before .line-number-fits .ensures) ∙ not-true _ (c .if1 .taken)) (cleared (now (a .out)) _ _ refl (c .before .before .before .before .clear-bytes .ensures))
+    let fits = c .before in
+    let cleared-out = fits .before .before .before in
+    let a = cleared-out .before .before .before .args in
+    write-unfit (frameOf (a .frame)) (length (now (a .out))) (sym (fits .line-number-fits .ensures) ∙ not-true _ (c .if1 .taken)) (cleared (now (a .out)) _ _ refl (cleared-out .clear-bytes .ensures))
 
 line-len-requires : tie.Need-line-len-requires
 line-len-requires c κs = search needs
@@ -42,8 +44,10 @@ same-length-2 c = search needs
 
 returns-2 : tie.Need-returns-2
 returns-2 c =
-    let a = c .before .before .before .before .before .before .before .before .before .args in
-    let zeroed = cleared (now (a .out)) _ _ refl (c .before .before .before .before .before .before .clear-bytes .ensures) in
+    let fits = c .before .before .before in
+    let cleared-out = fits .before .before .before in
+    let a = cleared-out .before .before .before .args in
+    let zeroed = cleared (now (a .out)) _ _ refl (cleared-out .clear-bytes .ensures) in
     write-short (frameOf (a .frame)) (length (now (a .out))) (omega (arith, c .before .line-len .ensures, ap length zeroed, length-replicate {A = ℕ} (length (now (a .out))) 0)) zeroed
 
 write-line-requires : tie.Need-write-line-requires
@@ -54,12 +58,16 @@ same-length-3 c = search needs
 
 returns-3 : tie.Need-returns-3
 returns-3 c =
-    let a = c .before .before .before .before .before .before .before .before .before .before .before .before .before .args in
-    let zeroed = cleared (now (a .out)) _ _ refl (c .before .before .before .before .before .before .before .before .before .before .clear-bytes .ensures) in
-    let w = c .before .before .write-line in
+    let written = c .before .before in
+    let long = written .before .before .before in
+    let fits = long .before .before in
+    let cleared-out = fits .before .before .before in
+    let a = cleared-out .before .before .before .args in
+    let zeroed = cleared (now (a .out)) _ _ refl (cleared-out .clear-bytes .ensures) in
+    let w = written .write-line in
     write-done (frameOf (a .frame)) (length (now (a .out)))
-    (sym (c .before .before .before .before .before .before .before .line-number-fits .ensures) ∙ not-false _ (c .before .before .before .before .before .before .if1 .left))
-    (omega (arith, c .before .before .before .before .before .line-len .ensures, ap length zeroed, length-replicate {A = ℕ} (length (now (a .out))) 0))
+    (sym (fits .line-number-fits .ensures) ∙ not-false _ (long .before .if1 .left))
+    (omega (arith, long .line-len .ensures, ap length zeroed, length-replicate {A = ℕ} (length (now (a .out))) 0))
     (w .ensures .0 ∙ zero-add _)
     (rw zeroed at (w .ensures .1))
 

@@ -43,12 +43,13 @@ loop-holds c =
     let w = c .before .before .before .before .fields-of in
     let h = c .before .before .put-hex in
     let n : length (w .result .values) ≡ 4 = search needs in
-    let m : length (w .result .widths) ≡ 4 = search needs in (
+    let m : length (w .result .widths) ≡ 4 = search needs in
+    let a = c .before .before .before .before .before .before .args in (
       omega arith,
       w .ensures .room,
       n,
       m,
-      omega (arith, line-long (w .result) _ (w .ensures) n m, h .ensures .0, ap length (h .ensures .1), length-sets (now (c .before .before .before .before .before .before .args .out)) (c .before .before .before .before .before .before .args .at) (hex oneByte (w .result .kind))),
+      omega (arith, line-long (w .result) _ (w .ensures) n m, h .ensures .0, ap length (h .ensures .1), length-sets (now (a .out)) (a .at) (hex oneByte (w .result .kind))),
       record { long = refl; place = refl; same = refl },
     )
 
@@ -66,9 +67,11 @@ element-copy-out-width c = search needs
 
 put-hex-requires-2 : tie.Need-put-hex-requires-2 Inv-loop μ-loop
 put-hex-requires-2 c κs =
-    let l = c .before .before .before .before .loop in
-    let h = c .before .before .before .before .before .before .before .put-hex in
-    let f = c .before .before .before .before .before .before .before .before .before .fields-of in
+    let loop = c .before .before .before .before in
+    let kind = loop .before .before .before in
+    let l = loop .loop in
+    let h = kind .put-hex in
+    let f = kind .before .before .fields-of in
     let w = f .result in
     let ws = take (w .count) (w .widths) in
     let e = getD-take (w .count) (w .widths) (l .i) 0 (omega arith) in
@@ -82,10 +85,13 @@ loop-less c = search needs
 
 loop-again : tie.Need-loop-again Inv-loop μ-loop
 loop-again c =
-    let l = c .before .before .before .before .before .before .before .loop in
-    let h = c .before .before .before .before .before .before .before .before .before .before .put-hex in
-    let g = c .before .before .put-hex2 in
-    let f = c .before .before .before .before .before .before .before .before .before .before .before .before .fields-of in
+    let field = c .before .before in
+    let loop = field .before .before .before .before .before in
+    let kind = loop .before .before .before in
+    let l = loop .loop in
+    let h = kind .put-hex in
+    let g = field .put-hex2 in
+    let f = kind .before .before .fields-of in
     let w = f .result in
     let v = l .inv in
     let d = getD-take (w .count) (w .widths) (l .i) 0 (omega arith) in
@@ -116,10 +122,12 @@ same-length c =
 
 returns : tie.Need-returns Inv-loop μ-loop
 returns c =
-    let a = c .before .before .before .before .before .before .before .before .args in
+    let kind = c .before .before .before .before in
+    let fields = kind .before .before in
+    let a = fields .before .before .args in
     let l = c .before .loop in
-    let h = c .before .before .before .before .put-hex in
-    let w = c .before .before .before .before .before .before .fields-of in
+    let h = kind .put-hex in
+    let w = fields .fields-of in
     let v = l .inv in
     let z = fields-stored (take (w .result .count) (w .result .widths)) (take (w .result .count) (w .result .values)) (h .last .0) (h .result) (l .i) (l .out) (l .p) (v .5) (omega (arith, width-count (w .result) _ (w .ensures) (v .2) (v .3))) in
     (omega (arith, z .0, line-long (w .result) _ (w .ensures) (v .2) (v .3), h .ensures .0), z .1 ∙ rw (h .ensures .0, h .ensures .1) (line-stored (w .result) _ (w .ensures) (v .2) (v .3) (now (a .out)) (a .at)))
