@@ -33,8 +33,8 @@ returns c =
 kind-at-requires : tie.Need-kind-at-requires
 kind-at-requires c κs = search needs
 
-enum-known-kind : tie.Need-enum-known-kind
-enum-known-kind c = search needs
+enum-known-op : tie.Need-enum-known-op
+enum-known-op c = search needs
 
 returns-2 : tie.Need-returns-2
 returns-2 c =
@@ -47,8 +47,8 @@ returns-3 c =
     let known = c .before in
     let kind = known .before .before .kind-at in
     let a = known .before .before .before .before .before .args in
-    λ n s h. op-is (now (a .text)) (a .at) s (a .k) h (known .kind .given .0 .0)
-    (kind-there (now (a .text)) (a .at + headerBytes + gateBytes * a .k) (gate-place (now (a .text)) (a .at) s (a .k) h) (omega arith) (rw (known .kind .given .1) at (kind .ensures)))
+    λ n s h. op-is (now (a .text)) (a .at) s (a .k) h (known .op .given .0 .0)
+    (kind-there (now (a .text)) (a .at + headerBytes + gateBytes * a .k) (gate-place (now (a .text)) (a .at) s (a .k) h) (omega arith) (rw (known .op .given .1) at (kind .ensures)))
 
 pub op-at-spec : {M : Type 1} → statement M
 op-at-spec =
@@ -59,6 +59,6 @@ op-at-spec =
     add-place-2
     returns
     kind-at-requires
-    enum-known-kind
+    enum-known-op
     returns-2
     returns-3)
