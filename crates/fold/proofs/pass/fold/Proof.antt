@@ -78,7 +78,8 @@ insert-requires c κs =
 add-k : tie.Need-add-k Inv-loop μ-loop
 add-k c =
     let looped = c .before .before .before .before .before .before .before .before in
-    let w = looped .before .before .before .before .before .before .before .before .before .before .pre .0 in
+    let bases = looped .before .before .before in
+    let w = bases .before .before .before .before .before .before .before .pre .0 in
     omega (arith, few-left w, few-right w)
 
 loop-less : tie.Need-loop-less Inv-loop μ-loop
