@@ -16,7 +16,6 @@ use Rattle.model.specs.Frames.{andKind, xorKind, outputKind}
 use Rattle.model.specs.Nets as nets
 use Rattle.model.specs.Nets.{Netlist}
 use Rattle.model.specs.Lists.{gateOf}
-use Rattle.laws.specs.Pairs.{isXor}
 use Rattle.laws.specs.ListText.{Stands, FirstReads, gateFrame, outputFrame, headerBytes, gateBytes, outputBytes, gate-again}
 use Rattle.frame.proofs.kinds.Kind as kind-type
 use Rattle.frame.specs.declared.kinds.Kind.{Kind}

@@ -11,7 +11,6 @@ use Rattle.model.specs.Limits.{mostInputs, mostGates, mostOutputs}
 use Rattle.model.specs.Answers.{Answer, guard, bind}
 use Rattle.model.specs.Answers.Answer.{ok, refused}
 use Rattle.model.specs.Frames.{field, endAt, headerKind, xorKind}
-use Rattle.model.specs.Nets as nets
 use Rattle.model.specs.Nets.{Netlist, size, isBelow}
 use Rattle.model.specs.Lists.{isHeader, isGate, isOutput, inRange, gateOf, addGate, addOutput, emptyList, readOutputs, readGates, readList}
 use Rattle.frame.proofs.Frame as frame-type

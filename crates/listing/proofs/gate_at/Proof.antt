@@ -1,7 +1,6 @@
 -- Where a list stands, the frame of gate k is read at its place (`gate-place`), so every return but the last speaks of no list.
 use Prim.Native.Nat.{_+_, _*_}
 use mathlib.Core.Path.{refl}
-use mathlib.Core.List.{[], _∷_}
 use native.Mathlib.Omega.{arith}
 use denote.Ref.{now}
 use lib.ListN.{getD}
