@@ -12,7 +12,6 @@ use Rattle.model.specs.Answers.Answer.{ok, refused}
 use Rattle.model.specs.Frames.{widths, isKind, reportKind, oneByte, twoBytes}
 use Rattle.frame.specs.declared.Op.{Op}
 use Rattle.frame.specs.declared.Op.the-variants.{And, Xor}
-use Rattle.frame.specs.Frames.{gateKind, extendKind}
 use Rattle.frame.specs.Kinds.{operandsKind}
 use Rattle.cec_abi.specs.Calls.{anyNumber, limits, fit, frameFrom}
 
@@ -39,15 +38,12 @@ pub ruleset tests = (in-byte, past-byte, in-word, past-word, in-any, arith)
 -- ---- the limits of a kind
 
 -- a gate's and an extension's fields have the same limits for AND and XOR
-pub gate-limits : (op : Op) → limits (gateKind op) ≡ twoBytes ∷ twoBytes ∷ []
+pub operands-limits : (extends : Bool) (op : Op) → limits (operandsKind extends op) ≡ twoBytes ∷ twoBytes ∷ []
 unfolding limits widths
-gate-limits And = refl
-gate-limits Xor = refl
-
-pub extend-limits : (op : Op) → limits (extendKind op) ≡ twoBytes ∷ twoBytes ∷ []
-unfolding limits widths
-extend-limits And = refl
-extend-limits Xor = refl
+operands-limits false And = refl
+operands-limits false Xor = refl
+operands-limits true And = refl
+operands-limits true Xor = refl
 
 -- a kind outside the table is no report's
 pub outside : (kind : ℕ) → isKind (widths kind) ≡ false → isKind (limits kind) ≡ false

@@ -4,7 +4,7 @@
 -- the widths of its kind ask for, each field is the number of its w digits, and that number is below 16 ^ w and has just those digits. So
 -- what is read is proper, its line has as many bytes as its kind gives, and written again it is the same bytes: a frame has one line, and a
 -- line one frame.
-use Prim.Native.Nat.{ℕ, zero, suc, _+_, _%_, _^_, _≤_, _<_}
+use Prim.Native.Nat.{ℕ, zero, suc, _+_, _^_, _≤_, _<_}
 use mathlib.Core.Path.{_≡_, refl, sym, ap, _∙_, subst}
 use mathlib.Core.Bool.{Bool, true, false, _&&_, true≢false}
 use mathlib.Core.List.{List, [], _∷_, _++_, map, append-nil, append-assoc, map-append}
@@ -16,13 +16,13 @@ use borrow.Author.Tests.{eqb-true, eq-eqb, ne-eqb, le-leb, ltb-true, ltb-false}
 use Rattle.model.specs.Limits.{highestLine}
 use Rattle.model.specs.Answers.{guard, filled}
 use Rattle.model.specs.Answers.Answer.{ok}
-use Rattle.model.specs.Lines.{Line, lineFeed, isDigit, digitValue, digitOf, lines}
+use Rattle.model.specs.Lines.{Line, lineFeed, digitOf, lines}
 use Rattle.model.specs.Lines.Line.{digits, faulty}
 use Rattle.model.specs.Frames.{Frame, headerKind, andKind, xorKind, outputKind, resolveKind, extendAndKind, extendXorKind, reportKind, oneByte, widths, isKind, number, total, split, decodeAs, decode, frameAt, endAt, loneOf, loneLine, hexFields, lineOf, statedLine, writeFrame, writtenFrame}
 use Rattle.laws.specs.Bools.{both, by-cond}
 use Rattle.laws.specs.Answers.{ok-injective, refused-not-ok, guard-ok, bind-ok}
 use Rattle.laws.specs.Lines.{prepend-some}
-use Rattle.laws.specs.Digits.{AllDigits, line-of-bytes, AllSpelt, all-spelt, Begins, bytes-of-line, line-end, digitsOf, hex-digits, all-append, all-digitsOf, length-digitsOf, number-digitsOf, digits-number}
+use Rattle.laws.specs.Digits.{AllDigits, line-of-bytes, all-spelt, Begins, bytes-of-line, line-end, digitsOf, hex-digits, all-append, all-digitsOf, length-digitsOf, number-digitsOf, digits-number}
 
 -- ---- fields
 
@@ -245,18 +245,6 @@ line-taken {t} {l} {ls} line f first read =
       long = omega (arith, n, e .0);
       behind = subst (λ (k : ℕ). lines (drop k t) ≡ ls) n (e .1);
     }
-
--- The second byte of such a line is the last digit of the frame's kind.
-pub kind-read : (t : List ℕ) {l : Line} {ls : List Line} (line : ℕ) (f : Frame) → lines t ≡ l ∷ ls → frameAt l line ≡ ok f
-    → (isDigit (getD t 1 0) ≡ true) × (digitValue (getD t 1 0) ≡ f .kind % 16)
-unfolding digitsOf
-kind-read t {l} line f first read = let b = digits-read l line f first read .2 in rw (b .bytes) (go (b .word) _ (b .spelt) (b .values))
-  where
-    go : (w q : List ℕ) {ds : List ℕ} {d e : ℕ} → AllSpelt w → map digitValue w ≡ d ∷ e ∷ ds
-        → (isDigit (getD (w ++ q) 1 0) ≡ true) × (digitValue (getD (w ++ q) 1 0) ≡ e)
-    go [] q h v = absurd (omega (arith, ap length v))
-    go (a ∷ []) q h v = absurd (omega (arith, ap length v))
-    go (a ∷ b ∷ w) q h v = (h .1 .0, cc)
 
 -- ---- reading, then writing
 

@@ -1,5 +1,4 @@
 -- The line is a gate's, and both literals are over nets below; or it is not so (`PlainLaws`).
-use mathlib.Core.Path.{sym, _∙_}
 use mathlib.Core.Bool.{false}
 use borrow.Author.Tests.{not-true, not-false}
 use denote.Ref.{now}
