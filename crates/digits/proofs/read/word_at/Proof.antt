@@ -39,8 +39,9 @@ values-of-requires c κs = search needs
 
 returns : tie.Need-returns
 returns c =
-    let b = c .before .before .before .before .before .before .before .before in
-    let p = c .before .before .pack .ensures in
+    let bytes = c .before .before in
+    let b = bytes .before .before .before .before .before .before in
+    let p = bytes .pack .ensures in
     no-word (now (b .args .text)) (b .args .at) (c .before .values-of .result) (b .pre) (c .before .values-of .ensures _ _ _ _ (p .1) (p .2) (p .3) (p .4) (p .0)) (c .if1 .taken)
 
 word-of-requires : tie.Need-word-of-requires
@@ -50,9 +51,11 @@ word-of-requires c κs =
 
 returns-2 : tie.Need-returns-2
 returns-2 c =
-    let b = c .before .before .before .before .before .before .before .before .before in
-    let p = c .before .before .before .pack .ensures in
-    let v = c .before .before .values-of in
+    let values = c .before .before in
+    let bytes = values .before in
+    let b = bytes .before .before .before .before .before .before in
+    let p = bytes .pack .ensures in
+    let v = values .values-of in
     four-digits (now (b .args .text)) (b .args .at) (v .result) (b .pre) (v .ensures _ _ _ _ (p .1) (p .2) (p .3) (p .4) (p .0)) (c .before .if1 .left) _ (c .word-of .ensures)
 
 pub word-at-spec : {M : Type 1} → statement M
