@@ -1,6 +1,7 @@
 // A stream's report: the checker's verdict as the one line that the program prints.
 use checker::Checked;
 use checker::check;
+use frame::kinds::REPORT_BYTES;
 use frame::report::report_line;
 use refusal::Refusal;
 use streams::STREAM_BYTES;
@@ -30,7 +31,7 @@ fn judge(stream: &[u8]) -> Checked
 }
 
 // The report's line of every verdict that comes to these counts or to this refusal.
-fn line_of(checked: Checked) -> [u8; 19]
+fn line_of(checked: Checked) -> [u8; REPORT_BYTES]
     requires { ⌜ Fits checked ⌝ }
     ensures { λ r. ⌜ ((a : Answer State) → checkedOf checked ≡ countedOf a → r ≡ lineOf (model.reportOf a)) ⌝ }
 {
@@ -41,7 +42,7 @@ fn line_of(checked: Checked) -> [u8; 19]
 }
 
 // The line that the program prints for a stream.
-pub fn report(stream: &[u8]) -> [u8; 19]
+pub fn report(stream: &[u8]) -> [u8; REPORT_BYTES]
     ensures { λ r. ⌜ r ≡ model.program (now (stream .entry)) ⌝ }
 {
     line_of(judge(stream))

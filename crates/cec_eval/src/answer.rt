@@ -20,7 +20,7 @@ const WORKING_BYTES: usize = 1089;
 
 // A line to print: its bytes from the start, zeros behind, and how many they are.
 pub struct Printed {
-    pub line: [u8; 19],
+    pub line: [u8; REPORT_BYTES],
     pub len: usize,
 }
 

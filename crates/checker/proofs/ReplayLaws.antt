@@ -10,6 +10,7 @@ use lib.Dec.{eqb}
 use lib.ListN.{length}
 use Rattle.model.specs.Answers.{Answer, guard, bind}
 use Rattle.model.specs.Answers.Answer.{ok, refused}
+use Rattle.model.specs.Limits.{proofLineBytes}
 use Rattle.model.specs.Frames as frames
 use Rattle.model.specs.Frames.{dueAt, resolveKind, widths}
 use Rattle.model.specs.Steps.{State, step, isStep, stepOf, stepAt, replay}
@@ -148,12 +149,8 @@ module _ (room : ℕ) (text : List ℕ) (c : Cursor) (got : Line) (e : firstOf t
 
 -- ---- a resolve, read without a frame
 
--- the bytes of its line
-abbrev resolveBytes : ℕ
-resolveBytes = 15
-
 pub resolve-line : (text : List ℕ) (at : ℕ) {k : Kind} {r : read.Resolve} {a b v : ℕ} → KindSays text at k → k ≡ kind-case.Resolve → ResolveSays text at r → r ≡ Of a b v
-    → LineAt text at resolveBytes resolveKind (a ∷ b ∷ v ∷ [])
+    → LineAt text at proofLineBytes resolveKind (a ∷ b ∷ v ∷ [])
 unfolding widths
 resolve-line text at {k} {r} {a} {b} {v} says is fields of =
     let kind : KindSays text at kind-case.Resolve = rw is at says in
@@ -162,9 +159,9 @@ resolve-line text at {k} {r} {a} {b} {v} says is fields of =
 
 -- the cursor behind it
 abbrev behind : Cursor → Cursor
-behind c = record { at = c .at + resolveBytes; line = c .line + 1 }
+behind c = record { at = c .at + proofLineBytes; line = c .line + 1 }
 
-module _ (room : ℕ) (text : List ℕ) (c : Cursor) (i : Inside text c) {a b v : ℕ} (l : LineAt text (c .at) resolveBytes resolveKind (a ∷ b ∷ v ∷ [])) where
+module _ (room : ℕ) (text : List ℕ) (c : Cursor) (i : Inside text c) {a b v : ℕ} (l : LineAt text (c .at) proofLineBytes resolveKind (a ∷ b ∷ v ∷ [])) where
   pub behind-resolve : Inside text (behind c)
   behind-resolve = record { at = l .room; line = omega (arith, i .line) }
 

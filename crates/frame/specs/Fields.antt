@@ -5,8 +5,10 @@ use mathlib.Core.Path.{_≡_}
 use mathlib.Core.Bool.{Bool, true, false}
 use mathlib.Core.List.{List, [], _∷_}
 use lib.ListN.{length, drop, getD}
+use Rattle.model.specs.Limits.{proofLineBytes}
 use Rattle.model.specs.Lines.{lineFeed, lines}
 use Rattle.model.specs.Frames.{twoBytes, widths}
+use Rattle.laws.specs.ListText.{gateBytes, outputBytes}
 use Rattle.frame.specs.Frames.{first, frameOf}
 use Rattle.frame.specs.Frames.First.{found}
 use Rattle.frame.specs.Kinds.{KindAt, Unframed}
@@ -38,15 +40,15 @@ abbrev pub Unfielded : List ℕ → ℕ → List ℕ → Type 0
 Unfielded text at ws = (kind : ℕ) → KindAt text at kind → widths kind ≡ ws → Unframed text at
 
 abbrev pub OperandsSay : List ℕ → ℕ → operands.Operands → Type 0
-OperandsSay text at (operands-case.Are x y) = Fielded text at (twoBytes ∷ twoBytes ∷ []) 11 (x ∷ y ∷ [])
+OperandsSay text at (operands-case.Are x y) = Fielded text at (twoBytes ∷ twoBytes ∷ []) gateBytes (x ∷ y ∷ [])
 OperandsSay text at operands-case.None = Unfielded text at (twoBytes ∷ twoBytes ∷ [])
 
 abbrev pub OutputSays : List ℕ → ℕ → output.Output → Type 0
-OutputSays text at (output-case.Is l) = Fielded text at (twoBytes ∷ []) 7 (l ∷ [])
+OutputSays text at (output-case.Is l) = Fielded text at (twoBytes ∷ []) outputBytes (l ∷ [])
 OutputSays text at output-case.None = Unfielded text at (twoBytes ∷ [])
 
 abbrev pub ResolveSays : List ℕ → ℕ → resolve.Resolve → Type 0
-ResolveSays text at (resolve-case.Of a b v) = Fielded text at (twoBytes ∷ twoBytes ∷ twoBytes ∷ []) 15 (a ∷ b ∷ v ∷ [])
+ResolveSays text at (resolve-case.Of a b v) = Fielded text at (twoBytes ∷ twoBytes ∷ twoBytes ∷ []) proofLineBytes (a ∷ b ∷ v ∷ [])
 ResolveSays text at resolve-case.None = Unfielded text at (twoBytes ∷ twoBytes ∷ twoBytes ∷ [])
 
 -- the line at a place has this frame and ends before the place behind it, whatever its number; or it has none

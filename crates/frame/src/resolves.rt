@@ -4,6 +4,7 @@ ghost use mathlib.Core.Path.{_≡_};
 ghost use Prim.Native.Nat.{_+_, _≤_};
 ghost use lib.ListN.{length};
 ghost use lib.Seq.{sets};
+ghost use Rattle.model.specs.Limits.{proofLineBytes};
 ghost use Rattle.model.specs.Frames.{twoBytes, hex, lineOf};
 ghost use Rattle.frame.specs.Frames.{resolve};
 
@@ -25,7 +26,7 @@ fn put_word(out: &mut [u8], at: usize, n: u16)
 
 // The line, written from a place on.
 pub fn write_resolve(out: &mut [u8], at: usize, first: u16, second: u16, variable: u16)
-    requires { ⌜ at + 15 ≤ length (now out) ⌝ }
+    requires { ⌜ at + proofLineBytes ≤ length (now out) ⌝ }
     ensures { λ _. ⌜ now (out .exit) ≡ sets (now (out .entry)) at (lineOf (resolve first second variable)) ⌝ }
 {
     out[at] = 49;
