@@ -2,6 +2,7 @@
 use Prim.Native.Nat.{ℕ, suc, _+_, _*_, _/_, _%_, _<_, _≤_}
 use mathlib.Core.Path.{_≡_, refl, sym, ap, _∙_}
 use mathlib.Core.List.{List, [], _∷_}
+use mathlib.Core.Logic.{_⊎_, inl, inr}
 use mathlib.Core.Bool.{Bool, true, false, cond}
 use native.Mathlib.Omega.{arith}
 use types.Run.{OneOf, miss}
@@ -25,7 +26,7 @@ use Rattle.frame.specs.declared.kinds.Kind.{Kind}
 use Rattle.frame.specs.declared.kinds.Kind.the-variants.{Header, Gate, Output, Resolve, Extend, Report, Unknown}
 use Rattle.frame.specs.Frames.{first, firstIn, gateKind}
 use Rattle.frame.specs.Frames.First.{found}
-use Rattle.frame.specs.Kinds.{ByKind, Spell, Named, IsKind, KindAt, KindSays, Unframed}
+use Rattle.frame.specs.Kinds.{operandsKind, IsOp, ByKind, Spell, Named, IsKind, KindAt, KindSays, Unframed}
 use Rattle.frame.proofs.DecodeLaws.{no-kind, short}
 use Rattle.frame.proofs.FieldLaws.{part-long, kind-spelt}
 use Rattle.frame.proofs.FirstLaws.{none-found, found-fault}
@@ -51,6 +52,17 @@ module _ (high low : ℕ) (hb : high < 256) (lb : low < 256) where
       let h : high ≡ a = omega arith in
       let l : low ≡ b = omega arith in
       rw (h, l) (record { high-digit = ia; low-digit = ib; spelt = k })
+
+  -- the same where the second is '2' or '3'
+  pub named-op : {spelt : ℕ} (extends : Bool) (a p : ℕ) {op : Op} → IsOp low op → a < 256 → isDigit a ≡ true → valueOf a ≡ p → operandsKind extends And ≡ 16 * p + 2 → operandsKind extends Xor ≡ 16 * p + 3
+      → spelt ≡ 256 * low + high → (spelt ≡ 12800 + a) ⊎ (spelt ≡ 13056 + a) → Spell high low (operandsKind extends op)
+  unfolding valueOf
+  named-op extends a p o ha ia v and xor e (inl q) =
+      let l : low ≡ 50 = omega arith in
+      rw (o .and l) (named a 50 ha (omega arith) e (omega arith) ia refl (rw v and))
+  named-op extends a p o ha ia v and xor e (inr q) =
+      let l : low ≡ 51 = omega arith in
+      rw (o .xor l) (named a 51 ha (omega arith) e (omega arith) ia refl (rw v xor))
 
   -- digits that do not spell a number of the table
   pub not-spelt : {spelt : ℕ} (p q : ℕ) → p < 16 → q < 16 → spelt ≡ 256 * low + high → (spelt ≡ 256 * digitOf q + digitOf p → ⊥) → isDigit high ≡ true → isDigit low ≡ true

@@ -9,6 +9,7 @@ use Rattle.model.specs.Lines.{isDigit, lineFeed}
 use Rattle.model.specs.Frames.{headerKind, outputKind, resolveKind, reportKind, widths, isKind, oneByte, decode}
 use Rattle.digits.specs.Digits.{valueOf, values, run, numberAt}
 use Rattle.frame.specs.declared.Op.{Op}
+use Rattle.frame.specs.declared.Op.the-variants.{And, Xor}
 use Rattle.frame.specs.Frames.{gateKind, extendKind}
 use Rattle.frame.specs.declared.kinds.Kind.{Kind}
 use Rattle.frame.specs.declared.kinds.Kind.the-variants.{Header, Gate, Output, Resolve, Extend, Report, Unknown}
@@ -37,6 +38,11 @@ ByKind P none Resolve = P resolveKind
 ByKind P none (Extend op) = P (extendKind op)
 ByKind P none Report = P reportKind
 ByKind P none Unknown = none
+
+-- '2' is AND and '3' is XOR, as the second digit of a kind
+pub record IsOp (low : ℕ) (op : Op) : Type 0 where
+  pub and : low ≡ 50 → op ≡ And
+  pub xor : low ≡ 51 → op ≡ Xor
 
 -- two bytes are the digits of this number
 pub record Spell (high low kind : ℕ) : Type 0 where

@@ -5,7 +5,7 @@ use crate::fields::digit_of;
 ghost use mathlib.Core.Path.{_≡_};
 ghost use Prim.Native.Nat.{_≤_};
 ghost use lib.ListN.{length};
-ghost use Rattle.frame.specs.Kinds.{byteOf, Named, IsKind, KindSays};
+ghost use Rattle.frame.specs.Kinds.{byteOf, IsOp, Named, IsKind, KindSays};
 
 // The bytes of each line, its LF counted.
 pub const HEADER_BYTES: usize = 11;
@@ -31,6 +31,16 @@ pub enum Kind {
     Unknown,
 }
 
+// The operation of a gate's kind, or of an extension's, by its second digit; told apart without a branch, since lists mix them.
+fn op_of(low: u8) -> Op
+    ensures { λ r. ⌜ IsOp low r ⌝ }
+{
+    if low == 0x32 {
+        return Op::And;
+    }
+    Op::Xor
+}
+
 // The kind that two digits spell. They are one number, the first digit lower, as they stand in memory: 0x3130 is '01'.
 fn spelt_kind(high: u8, low: u8) -> Kind
     ensures { λ r. ⌜ Named high low r ⌝ }
@@ -38,12 +48,10 @@ fn spelt_kind(high: u8, low: u8) -> Kind
     let spelt = 256 * (low as u16) + (high as u16);
     match spelt {
         0x3130 => Kind::Header,
-        0x3230 => Kind::Gate(Op::And),
-        0x3330 => Kind::Gate(Op::Xor),
+        0x3230 | 0x3330 => Kind::Gate(op_of(low)),
         0x3430 => Kind::Output,
         0x3131 => Kind::Resolve,
-        0x3231 => Kind::Extend(Op::And),
-        0x3331 => Kind::Extend(Op::Xor),
+        0x3231 | 0x3331 => Kind::Extend(op_of(low)),
         0x3132 => Kind::Report,
         _ => Kind::Unknown,
     }

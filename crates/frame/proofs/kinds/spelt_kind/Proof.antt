@@ -1,20 +1,29 @@
--- Each arm has its two digits (`named`); two digits that no arm has spell no number of the table (`not-spelt`).
+-- Each arm has its two digits (`named`, `named-op`); two digits that no arm has spell no number of the table (`not-spelt`).
 use mathlib.Core.Path.{refl}
+use mathlib.Core.Bool.{true, false}
+use mathlib.Core.Logic.{inl, inr}
 use native.Mathlib.Omega.{arith}
 use Rattle.model.specs.Frames.{widths}
 use Rattle.digits.specs.Digits.{valueOf}
-use Rattle.frame.proofs.KindLaws.{named, not-spelt}
+use Rattle.frame.proofs.KindLaws.{named, named-op, not-spelt}
 use borrow.Author.Needs.{needs}
 use Rattle.frame.proofs.kinds.spelt_kind.Statement.{statement}
 use Rattle.frame.proofs.kinds.spelt_kind.Tie as tie
 use Rattle.frame.proofs.kinds.spelt_kind.Reads as reads
 use Rattle.frame.proofs.kinds.spelt_kind.Lts as lts
+use Rattle.frame.proofs.kinds.op_of.Reads as op-of-reads
 
 mul-spelt : tie.Need-mul-spelt
 mul-spelt c = search needs
 
 add-spelt : tie.Need-add-spelt
 add-spelt c = search needs
+
+op-of-requires : tie.Need-op-of-requires
+op-of-requires c κs = search needs
+
+op-of-requires-2 : tie.Need-op-of-requires-2
+op-of-requires-2 c κs = search needs
 
 returns : tie.Need-returns
 unfolding valueOf
@@ -25,59 +34,47 @@ returns c =
 returns-2 : tie.Need-returns-2
 unfolding valueOf
 returns-2 c =
-    let x = c .before .args in
-    named (x .high) (x .low) (omega arith) (omega arith) 48 50 (omega arith) (omega arith) refl (c .match .keys2) refl refl refl
+    let x = c .before .before .args in
+    named-op (x .high) (x .low) (omega arith) (omega arith) false 48 0 (c .op-of .ensures) (omega arith) refl refl refl refl refl (c .before .match .keys2)
 
 returns-3 : tie.Need-returns-3
 unfolding valueOf
 returns-3 c =
     let x = c .before .args in
-    named (x .high) (x .low) (omega arith) (omega arith) 48 51 (omega arith) (omega arith) refl (c .match .keys3) refl refl refl
+    named (x .high) (x .low) (omega arith) (omega arith) 48 52 (omega arith) (omega arith) refl (c .match .keys3) refl refl refl
 
 returns-4 : tie.Need-returns-4
 unfolding valueOf
 returns-4 c =
     let x = c .before .args in
-    named (x .high) (x .low) (omega arith) (omega arith) 48 52 (omega arith) (omega arith) refl (c .match .keys4) refl refl refl
+    named (x .high) (x .low) (omega arith) (omega arith) 49 49 (omega arith) (omega arith) refl (c .match .keys4) refl refl refl
 
 returns-5 : tie.Need-returns-5
 unfolding valueOf
 returns-5 c =
-    let x = c .before .args in
-    named (x .high) (x .low) (omega arith) (omega arith) 49 49 (omega arith) (omega arith) refl (c .match .keys5) refl refl refl
+    let x = c .before .before .args in
+    named-op (x .high) (x .low) (omega arith) (omega arith) true 49 1 (c .op-of2 .ensures) (omega arith) refl refl refl refl refl (c .before .match .keys5)
 
 returns-6 : tie.Need-returns-6
 unfolding valueOf
 returns-6 c =
     let x = c .before .args in
-    named (x .high) (x .low) (omega arith) (omega arith) 49 50 (omega arith) (omega arith) refl (c .match .keys6) refl refl refl
+    named (x .high) (x .low) (omega arith) (omega arith) 50 49 (omega arith) (omega arith) refl (c .match .keys6) refl refl refl
 
 returns-7 : tie.Need-returns-7
-unfolding valueOf
-returns-7 c =
-    let x = c .before .args in
-    named (x .high) (x .low) (omega arith) (omega arith) 49 51 (omega arith) (omega arith) refl (c .match .keys7) refl refl refl
-
-returns-8 : tie.Need-returns-8
-unfolding valueOf
-returns-8 c =
-    let x = c .before .args in
-    named (x .high) (x .low) (omega arith) (omega arith) 50 49 (omega arith) (omega arith) refl (c .match .keys8) refl refl refl
-
-returns-9 : tie.Need-returns-9
 unfolding widths
-returns-9 c =
+returns-7 c =
     let x = c .before .args in
     let not = c .match .rest in
     let other = not-spelt (x .high) (x .low) (omega arith) (omega arith) in
     λ h l. simp (
-      other 0 1 (omega arith) (omega arith) refl (not .0 .0 .0 .0 .0 .0 .0 .1) h l,
-      other 0 2 (omega arith) (omega arith) refl (not .0 .0 .0 .0 .0 .0 .1) h l,
-      other 0 3 (omega arith) (omega arith) refl (not .0 .0 .0 .0 .0 .1) h l,
-      other 0 4 (omega arith) (omega arith) refl (not .0 .0 .0 .0 .1) h l,
-      other 1 1 (omega arith) (omega arith) refl (not .0 .0 .0 .1) h l,
-      other 1 2 (omega arith) (omega arith) refl (not .0 .0 .1) h l,
-      other 1 3 (omega arith) (omega arith) refl (not .0 .1) h l,
+      other 0 1 (omega arith) (omega arith) refl (not .0 .0 .0 .0 .0 .1) h l,
+      other 0 2 (omega arith) (omega arith) refl (λ e. not .0 .0 .0 .0 .1 (inl e)) h l,
+      other 0 3 (omega arith) (omega arith) refl (λ e. not .0 .0 .0 .0 .1 (inr e)) h l,
+      other 0 4 (omega arith) (omega arith) refl (not .0 .0 .0 .1) h l,
+      other 1 1 (omega arith) (omega arith) refl (not .0 .0 .1) h l,
+      other 1 2 (omega arith) (omega arith) refl (λ e. not .0 .1 (inl e)) h l,
+      other 1 3 (omega arith) (omega arith) refl (λ e. not .0 .1 (inr e)) h l,
       other 2 1 (omega arith) (omega arith) refl (not .1) h l,
     )
 
@@ -87,12 +84,12 @@ spelt-kind-spec =
     (tie.spec
     mul-spelt
     add-spelt
+    op-of-requires
+    op-of-requires-2
     returns
     returns-2
     returns-3
     returns-4
     returns-5
     returns-6
-    returns-7
-    returns-8
-    returns-9)
+    returns-7)
