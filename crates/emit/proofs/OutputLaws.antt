@@ -27,9 +27,9 @@ use Rattle.emit_laws.specs.Place.{firstZClause}
 use Rattle.emit_laws.specs.Gates.{linkOf}
 use Rattle.emit_laws.specs.Emit.{lastTree}
 use Rattle.emit_laws.specs.Stepwise.{Then, then-old}
-use Rattle.derive.specs.declared.lines.Derived.{Derived}
-use Rattle.derive.specs.Emission.{Emits}
-use Rattle.derive.proofs.EmitLaws.{emits-then, emits-cut-left}
+use Rattle.derivation.specs.declared.lines.Derived.{Derived}
+use Rattle.derivation.specs.Emission.{Emits}
+use Rattle.derivation.proofs.EmitLaws.{emits-then, emits-cut-left}
 
 -- ---- ¬z, by the representative of the operands
 

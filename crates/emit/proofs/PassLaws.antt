@@ -28,11 +28,11 @@ use Rattle.emit_laws.specs.Emit.{startLinks, gateLines, lastTree, emit}
 use Rattle.listing.specs.Listing.{noGate}
 use Rattle.table.specs.Rows.{rowWidth, HoldsTable}
 use Rattle.table.specs.Links.{linkWidth, Keeps}
-use Rattle.derive.specs.declared.gates.DefinedGate.{DefinedGate}
-use Rattle.derive.specs.declared.lines.Derived.{Derived}
-use Rattle.derive.specs.declared.gates.DerivedGate.{DerivedGate}
-use Rattle.derive.specs.Emission.{Written, Emits, EmitsAll}
-use Rattle.derive.specs.Known.{Known, Next, literalsOf, numbersOf, keptOf}
+use Rattle.derivation.specs.declared.gates.DefinedGate.{DefinedGate}
+use Rattle.derivation.specs.declared.lines.Derived.{Derived}
+use Rattle.derivation.specs.declared.gates.DerivedGate.{DerivedGate}
+use Rattle.derivation.specs.Emission.{Written, Emits, EmitsAll}
+use Rattle.derivation.specs.Known.{Known, Next, literalsOf, numbersOf, keptOf}
 use Rattle.emit.specs.declared.pass.Progress.{Progress}
 use Rattle.emit.specs.Pass.{EmitsGate, Adds, GateDone, AllDone, gatesDone, normalOdd, normalTrees}
 

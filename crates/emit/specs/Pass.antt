@@ -18,11 +18,11 @@ use Rattle.emit_laws.specs.Loop as model
 use Rattle.emit_laws.specs.Loop.{slots, sign, gateTrees, loop}
 use Rattle.emit_laws.specs.Emit.{startLinks, emit}
 use Rattle.table.specs.Links.{linkWidth}
-use Rattle.derive.specs.declared.lines.Derived.{Derived}
-use Rattle.derive.specs.declared.gates.DerivedGate.{DerivedGate}
-use Rattle.derive.specs.declared.gates.DefinedGate.{DefinedGate}
-use Rattle.derive.specs.Emission.{Written}
-use Rattle.derive.specs.Known.{Known, literalsOf, numbersOf, keptOf}
+use Rattle.derivation.specs.declared.lines.Derived.{Derived}
+use Rattle.derivation.specs.declared.gates.DerivedGate.{DerivedGate}
+use Rattle.derivation.specs.declared.gates.DefinedGate.{DefinedGate}
+use Rattle.derivation.specs.Emission.{Written}
+use Rattle.derivation.specs.Known.{Known, literalsOf, numbersOf, keptOf}
 use Rattle.emit.specs.declared.pass.Progress.{Progress}
 
 -- the lines of a gate's trees, and the numbers to be kept of it: two links are exchanged where the trees were made for the odd literal

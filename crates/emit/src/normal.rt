@@ -1,6 +1,6 @@
 // A gate and the numbers of its clauses, in normal form: an XOR's operands are complemented so that their representatives have no sign, and
 // the operands are put in the order of their representatives.
-use derive::gates::DefinedGate;
+use derivation::gates::DefinedGate;
 use table::rows::representative;
 ghost use mathlib.Core.Path.{_≡_};
 ghost use mathlib.Core.Bool.{false, true};
@@ -11,7 +11,7 @@ ghost use Rattle.model.specs.Nets.{netOf};
 ghost use Rattle.fold_laws.specs.Table.{Entry, repOf};
 ghost use Rattle.emit_laws.specs.Gates as model;
 ghost use Rattle.table.specs.Rows.{HoldsTable};
-ghost use Rattle.derive.specs.Known.{literalsOf, numbersOf};
+ghost use Rattle.derivation.specs.Known.{literalsOf, numbersOf};
 
 // The operands of an AND exchanged.
 fn swap_and(d: DefinedGate) -> DefinedGate

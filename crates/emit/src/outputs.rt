@@ -1,7 +1,7 @@
 // The outputs: each z is false, then each w, down to the empty clause.
-use derive::lines::Derived;
-use derive::lines::resolve_on;
-use derive::subst::subst2;
+use derivation::lines::Derived;
+use derivation::lines::resolve_on;
+use derivation::subst::subst2;
 use literal::Literal;
 use miter::both::outputs_of;
 use miter::clauses::first_w_clause;
@@ -23,8 +23,8 @@ ghost use Rattle.emit_laws.specs.Place.{firstZClause};
 ghost use Rattle.emit_laws.specs.Outputs.{outTree};
 ghost use Rattle.emit_laws.specs.Emit.{lastTree};
 ghost use Rattle.miter.specs.Miters.{PairStands};
-ghost use Rattle.derive.specs.Emission.{Room, Few, Emits};
-ghost use Rattle.derive.specs.Known.{Known};
+ghost use Rattle.derivation.specs.Emission.{Room, Few, Emits};
+ghost use Rattle.derivation.specs.Known.{Known};
 
 // ¬z, from the clauses of z, the XOR of x and y, which begin with number k.
 fn out(work: &[u16], start: usize, proof: &mut [u8], at: Derived, k: u16, x: u16, y: u16) -> Derived

@@ -3,11 +3,11 @@ use crate::begin::start_links;
 use crate::normal::normal_and;
 use crate::normal::normal_xor;
 use crate::outputs::outputs;
-use derive::ands::and_gate;
-use derive::gates::DefinedGate;
-use derive::gates::DerivedGate;
-use derive::lines::Derived;
-use derive::xors::xor_gate;
+use derivation::ands::and_gate;
+use derivation::gates::DefinedGate;
+use derivation::gates::DerivedGate;
+use derivation::lines::Derived;
+use derivation::xors::xor_gate;
 use frame::Op;
 use listing::Gate;
 use literal::Literal;
@@ -37,8 +37,8 @@ ghost use Rattle.listing.specs.Listing.{gateMeant};
 ghost use Rattle.table.specs.Rows.{HoldsTable};
 ghost use Rattle.table.specs.Links.{linkWidth};
 ghost use Rattle.miter.specs.Miters.{PairStands};
-ghost use Rattle.derive.specs.Emission.{Written, Room, FewGate, EmitsAll};
-ghost use Rattle.derive.specs.Known.{Known, Next, literalsOf};
+ghost use Rattle.derivation.specs.Emission.{Written, Room, FewGate, EmitsAll};
+ghost use Rattle.derivation.specs.Known.{Known, Next, literalsOf};
 ghost use Rattle.emit.specs.Pass.{EmitsGate, GateDone, AllDone, linesOf, ProgressRoom, FewProgress, normalOdd, normalTrees};
 
 // Where the proof ends: its lines, how many clauses there are then, and the number of the next gate's first clause.

@@ -26,7 +26,7 @@ use Rattle.miter.proofs.ListLaws.{lists-of}
 use Rattle.engine.specs.declared.Proved.{Proved}
 use Rattle.engine.specs.declared.Proved.the-variants as proved
 use Rattle.miter.specs.Miters as miters
-use Rattle.derive.specs.Emission.{Written}
+use Rattle.derivation.specs.Emission.{Written}
 use Rattle.engine.specs.Replies.{listsOf, due, FoldedSays, AnswerSays}
 
 -- ---- two lists

@@ -13,7 +13,7 @@ use Rattle.model.specs.Engine.{lineBound, working, provable}
 use Rattle.emit_laws.specs.Proof.{proofOf}
 use Rattle.netlist.specs.declared.Pair.{Pair}
 use Rattle.miter.specs.Miters as miters
-use Rattle.derive.specs.Emission.{Written}
+use Rattle.derivation.specs.Emission.{Written}
 use Rattle.engine.specs.declared.Proved.{Proved}
 use Rattle.engine.specs.declared.Proved.the-variants.{Lines, Refused}
 

@@ -6,10 +6,6 @@ use Rattle.cec_abi.proofs.ReplyLaws.{agrees}
 use borrow.Author.Needs.{needs}
 use Rattle.cec_abi.proofs.cec_check.Statement.{statement}
 use Rattle.cec_abi.proofs.cec_check.Tie as tie
-use Rattle.cec_abi.proofs.cec_check.Reads as reads
-use Rattle.cec_abi.proofs.cec_check.Lts as lts
-use Rattle.cec_abi.proofs.replies.check_reply.Reads as check-reply-reads
-use Rattle.checker.proofs.check.Reads as check-reads
 
 check-requires : tie.Need-check-requires
 check-requires c κs = search needs

@@ -4,10 +4,6 @@ use Rattle.cec_abi.specs.Replies.{numberReply}
 use borrow.Author.Needs.{needs}
 use Rattle.cec_abi.proofs.cec_evaluate.Statement.{statement}
 use Rattle.cec_abi.proofs.cec_evaluate.Tie as tie
-use Rattle.cec_abi.proofs.cec_evaluate.Reads as reads
-use Rattle.cec_abi.proofs.cec_evaluate.Lts as lts
-use Rattle.cec_abi.proofs.replies.word_reply.Reads as word-reply-reads
-use Rattle.evaluator.proofs.evaluate.Reads as evaluate-reads
 
 evaluate-requires : tie.Need-evaluate-requires
 evaluate-requires c κs = search needs

@@ -4,10 +4,6 @@ use Rattle.cec_abi.specs.Replies.{frameReply}
 use borrow.Author.Needs.{needs}
 use Rattle.cec_abi.proofs.cec_read_frame.Statement.{statement}
 use Rattle.cec_abi.proofs.cec_read_frame.Tie as tie
-use Rattle.cec_abi.proofs.cec_read_frame.Reads as reads
-use Rattle.cec_abi.proofs.cec_read_frame.Lts as lts
-use Rattle.cec_abi.proofs.replies.frame_reply.Reads as frame-reply-reads
-use Rattle.frame.proofs.read_frame.Reads as read-frame-reads
 
 read-frame-requires : tie.Need-read-frame-requires
 read-frame-requires c κs = search needs

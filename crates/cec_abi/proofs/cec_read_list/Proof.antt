@@ -4,10 +4,6 @@ use Rattle.model.specs.Lists.{readOne}
 use borrow.Author.Needs.{needs}
 use Rattle.cec_abi.proofs.cec_read_list.Statement.{statement}
 use Rattle.cec_abi.proofs.cec_read_list.Tie as tie
-use Rattle.cec_abi.proofs.cec_read_list.Reads as reads
-use Rattle.cec_abi.proofs.cec_read_list.Lts as lts
-use Rattle.cec_abi.proofs.replies.list_reply.Reads as list-reply-reads
-use Rattle.netlist.proofs.read_list.Reads as read-list-reads
 
 read-list-requires : tie.Need-read-list-requires
 read-list-requires c κs = search needs

@@ -4,10 +4,6 @@ use Rattle.model.specs.Lists.{readLists}
 use borrow.Author.Needs.{needs}
 use Rattle.cec_abi.proofs.cec_read_lists.Statement.{statement}
 use Rattle.cec_abi.proofs.cec_read_lists.Tie as tie
-use Rattle.cec_abi.proofs.cec_read_lists.Reads as reads
-use Rattle.cec_abi.proofs.cec_read_lists.Lts as lts
-use Rattle.cec_abi.proofs.replies.lists_reply.Reads as lists-reply-reads
-use Rattle.netlist.proofs.read_lists.Reads as read-lists-reads
 
 read-lists-requires : tie.Need-read-lists-requires
 read-lists-requires c κs = search needs

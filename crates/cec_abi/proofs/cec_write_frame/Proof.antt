@@ -4,11 +4,6 @@ use Rattle.cec_abi.specs.Replies.{numberReply}
 use borrow.Author.Needs.{needs}
 use Rattle.cec_abi.proofs.cec_write_frame.Statement.{statement}
 use Rattle.cec_abi.proofs.cec_write_frame.Tie as tie
-use Rattle.cec_abi.proofs.cec_write_frame.Reads as reads
-use Rattle.cec_abi.proofs.cec_write_frame.Lts as lts
-use Rattle.cec_abi.proofs.numbers.frame_from.Reads as frame-from-reads
-use Rattle.cec_abi.proofs.replies.write_reply.Reads as write-reply-reads
-use Rattle.cec_abi.proofs.write_answer.Reads as write-answer-reads
 
 frame-from-requires : tie.Need-frame-from-requires
 frame-from-requires c κs = search needs

@@ -6,10 +6,6 @@ use Rattle.clearing.proofs.ClearLaws.{cleared}
 use borrow.Author.Needs.{needs}
 use Rattle.cec_abi.proofs.write_answer.Statement.{statement}
 use Rattle.cec_abi.proofs.write_answer.Tie as tie
-use Rattle.cec_abi.proofs.write_answer.Reads as reads
-use Rattle.cec_abi.proofs.write_answer.Lts as lts
-use Rattle.clearing.proofs.clear_bytes.Reads as clear-bytes-reads
-use Rattle.frame.proofs.write_frame.Reads as write-frame-reads
 
 enum-known-answer : tie.Need-enum-known-answer
 enum-known-answer c = search needs

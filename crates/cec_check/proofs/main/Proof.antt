@@ -4,13 +4,6 @@ use lib.Seq.{length-take-le}
 use borrow.Author.Needs.{needs}
 use Rattle.cec_check.proofs.main.Statement.{statement}
 use Rattle.cec_check.proofs.main.Tie as tie
-use Rattle.cec_check.proofs.main.Reads as reads
-use Rattle.cec_check.proofs.main.Lts as lts
-use Rattle.cec_check.proofs.print.Reads as print-reads
-use Rattle.cec_check.proofs.report.report.Reads as report-reads
-use Rattle.io.proofs.write_all.Reads as write-all-reads
-use Rattle.streams.proofs.read_stream.Reads as read-stream-reads
-use Rattle.streams.proofs.room.Reads as room-reads
 
 room-requires : tie.Need-room-requires
 room-requires c κs = search needs

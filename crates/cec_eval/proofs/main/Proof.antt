@@ -4,13 +4,6 @@ use lib.Seq.{length-take-le}
 use borrow.Author.Needs.{needs}
 use Rattle.cec_eval.proofs.main.Statement.{statement}
 use Rattle.cec_eval.proofs.main.Tie as tie
-use Rattle.cec_eval.proofs.main.Reads as reads
-use Rattle.cec_eval.proofs.main.Lts as lts
-use Rattle.cec_eval.proofs.argument.Reads as argument-reads
-use Rattle.cec_eval.proofs.run.Reads as run-reads
-use Rattle.io.proofs.write_all.Reads as write-all-reads
-use Rattle.streams.proofs.read_stream.Reads as read-stream-reads
-use Rattle.streams.proofs.room.Reads as room-reads
 
 argument-requires : tie.Need-argument-requires
 argument-requires c κs = search needs

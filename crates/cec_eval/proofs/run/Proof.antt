@@ -5,10 +5,6 @@ use Rattle.cec_eval.proofs.LineLaws.{printed-within}
 use borrow.Author.Needs.{needs}
 use Rattle.cec_eval.proofs.run.Statement.{statement}
 use Rattle.cec_eval.proofs.run.Tie as tie
-use Rattle.cec_eval.proofs.run.Reads as reads
-use Rattle.cec_eval.proofs.run.Lts as lts
-use Rattle.cec_eval.proofs.answer.answer.Reads as answer-reads
-use Rattle.cec_eval.proofs.print.Reads as print-reads
 
 answer-requires : tie.Need-answer-requires
 answer-requires c κs = search needs

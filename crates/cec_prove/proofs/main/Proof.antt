@@ -7,13 +7,6 @@ use Rattle.cec_prove.proofs.StreamLaws.{within}
 use borrow.Author.Needs.{needs}
 use Rattle.cec_prove.proofs.main.Statement.{statement}
 use Rattle.cec_prove.proofs.main.Tie as tie
-use Rattle.cec_prove.proofs.main.Reads as reads
-use Rattle.cec_prove.proofs.main.Lts as lts
-use Rattle.cec_prove.proofs.evidence.evidence.Reads as evidence-reads
-use Rattle.cec_prove.proofs.print.Reads as print-reads
-use Rattle.io.proofs.write_all.Reads as write-all-reads
-use Rattle.streams.proofs.read_stream.Reads as read-stream-reads
-use Rattle.streams.proofs.room.Reads as room-reads
 
 room-requires : tie.Need-room-requires
 room-requires c κs = search needs

@@ -8,10 +8,6 @@ use Rattle.checker.proofs.VerdictLaws.{kept}
 use borrow.Author.Needs.{needs}
 use Rattle.checker.proofs.check.Statement.{statement}
 use Rattle.checker.proofs.check.Tie as tie
-use Rattle.checker.proofs.check.Reads as reads
-use Rattle.checker.proofs.check.Lts as lts
-use Rattle.clearing.proofs.clear_numbers.Reads as clear-numbers-reads
-use Rattle.checker.proofs.verdict.verdict.Reads as verdict-reads
 
 verdict-requires : tie.Need-verdict-requires
 verdict-requires c κs = search needs

@@ -6,8 +6,6 @@ use lib.ListN.{length}
 use Rattle.clearing.proofs.ClearLaws.{Clearing, begun, one-more, ended}
 use Rattle.clearing.proofs.clear_bytes.Statement.{statement}
 use Rattle.clearing.proofs.clear_bytes.Tie as tie
-use Rattle.clearing.proofs.clear_bytes.Reads as reads
-use Rattle.clearing.proofs.clear_bytes.Lts as lts
 
 abbrev Inv-loop : tie.InvT-loop
 Inv-loop bytes₀ from at₀ at-end bytes at = Clearing bytes₀ from bytes at

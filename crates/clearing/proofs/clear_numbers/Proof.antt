@@ -6,8 +6,6 @@ use lib.ListN.{length}
 use Rattle.clearing.proofs.ClearLaws.{Clearing, begun, one-more, ended}
 use Rattle.clearing.proofs.clear_numbers.Statement.{statement}
 use Rattle.clearing.proofs.clear_numbers.Tie as tie
-use Rattle.clearing.proofs.clear_numbers.Reads as reads
-use Rattle.clearing.proofs.clear_numbers.Lts as lts
 
 abbrev Inv-loop : tie.InvT-loop
 Inv-loop numbers₀ from at₀ at-end numbers at = Clearing numbers₀ from numbers at

@@ -6,8 +6,6 @@ use lib.ListN.{length}
 use Rattle.clearing.proofs.ClearLaws.{Clearing, begun, one-more, ended}
 use Rattle.clearing.proofs.clear_words.Statement.{statement}
 use Rattle.clearing.proofs.clear_words.Tie as tie
-use Rattle.clearing.proofs.clear_words.Reads as reads
-use Rattle.clearing.proofs.clear_words.Lts as lts
 
 abbrev Inv-loop : tie.InvT-loop
 Inv-loop words₀ from at₀ at-end words at = Clearing words₀ from words at

@@ -11,9 +11,6 @@ use Rattle.digits.specs.Digits.{run}
 use Rattle.digits.proofs.DigitLaws.{run-stop, run-more, run-end}
 use Rattle.digits.proofs.digits_at.Statement.{statement}
 use Rattle.digits.proofs.digits_at.Tie as tie
-use Rattle.digits.proofs.digits_at.Reads as reads
-use Rattle.digits.proofs.digits_at.Lts as lts
-use Rattle.digits.proofs.is_digit.Reads as is-digit-reads
 
 abbrev Inv-loop : tie.InvT-loop
 Inv-loop text at i₀ i = (at ≤ i) × (i ≤ length text) × (run (drop at text) ≡ (i - at) + run (drop i text))

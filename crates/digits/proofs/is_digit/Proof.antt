@@ -4,8 +4,6 @@ use borrow.Author.Tests.{le-leb, lt-leb}
 use lib.Dec.{leb·suc-suc}
 use Rattle.digits.proofs.is_digit.Statement.{statement}
 use Rattle.digits.proofs.is_digit.Tie as tie
-use Rattle.digits.proofs.is_digit.Reads as reads
-use Rattle.digits.proofs.is_digit.Lts as lts
 
 returns : tie.Need-returns
 returns c = let b = c .before .args .b in simp (lt-leb 48 b (omega arith), lt-leb 65 b (omega arith))

@@ -7,11 +7,6 @@ use Rattle.engine.proofs.AnswerLaws.{unread, answered}
 use borrow.Author.Needs.{needs}
 use Rattle.engine.proofs.answer.Statement.{statement}
 use Rattle.engine.proofs.answer.Tie as tie
-use Rattle.engine.proofs.answer.Reads as reads
-use Rattle.engine.proofs.answer.Lts as lts
-use Rattle.netlist.proofs.Both.refusal.Reads as refusal-reads
-use Rattle.engine.proofs.folded.Reads as folded-reads
-use Rattle.netlist.proofs.read_lists.Reads as read-lists-reads
 
 -- what was read, at the arm that has the pair
 lists-read : (c : tie.After-lists) → TwoLists (now (c .before .before .before .before .before .before .args .text)) (c .lists .given .0 .0)

@@ -7,12 +7,6 @@ use Rattle.engine.proofs.AnswerLaws.{due-16, due-17, due-18, due-proof,
 use borrow.Author.Needs.{needs}
 use Rattle.engine.proofs.folded.Statement.{statement}
 use Rattle.engine.proofs.folded.Tie as tie
-use Rattle.engine.proofs.folded.Reads as reads
-use Rattle.engine.proofs.folded.Lts as lts
-use Rattle.emit.proofs.pass.emit.Reads as emit-reads
-use Rattle.fold.proofs.pass.first_apart.Reads as first-apart-reads
-use Rattle.fold.proofs.pass.fold.Reads as fold-reads
-use Rattle.clearing.proofs.clear_bytes.Reads as clear-bytes-reads
 
 add-gates : tie.Need-add-gates
 add-gates c = search needs

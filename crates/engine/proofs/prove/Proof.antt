@@ -6,11 +6,6 @@ use Rattle.engine.proofs.AnswerLaws.{keeps-refusal, keeps-proof}
 use borrow.Author.Needs.{needs}
 use Rattle.engine.proofs.prove.Statement.{statement}
 use Rattle.engine.proofs.prove.Tie as tie
-use Rattle.engine.proofs.prove.Reads as reads
-use Rattle.engine.proofs.prove.Lts as lts
-use Rattle.clearing.proofs.clear_numbers.Reads as clear-numbers-reads
-use Rattle.engine.proofs.answer.Reads as answer-reads
-use Rattle.clearing.proofs.clear_bytes.Reads as clear-bytes-reads
 
 answer-requires : tie.Need-answer-requires
 answer-requires c κs = search needs

@@ -7,11 +7,6 @@ use Rattle.evaluator.proofs.AnswerLaws.{text-refused, work-short, evalu
 use borrow.Author.Needs.{needs}
 use Rattle.evaluator.proofs.answer.Statement.{statement}
 use Rattle.evaluator.proofs.answer.Tie as tie
-use Rattle.evaluator.proofs.answer.Reads as reads
-use Rattle.evaluator.proofs.answer.Lts as lts
-use Rattle.evaluator.proofs.word_of.Reads as word-of-reads
-use Rattle.netlist.proofs.One.refusal.Reads as refusal-reads
-use Rattle.netlist.proofs.read_list.Reads as read-list-reads
 
 -- what was read, at the arm that has the list's counts
 list-read : (c : tie.After-list) → OneList (now (c .before .before .before .before .before .args .text)) (c .list .given .0 .0)

@@ -5,10 +5,6 @@ use Rattle.clearing.proofs.ClearLaws.{cleared}
 use borrow.Author.Needs.{needs}
 use Rattle.evaluator.proofs.evaluate.Statement.{statement}
 use Rattle.evaluator.proofs.evaluate.Tie as tie
-use Rattle.evaluator.proofs.evaluate.Reads as reads
-use Rattle.evaluator.proofs.evaluate.Lts as lts
-use Rattle.evaluator.proofs.answer.Reads as answer-reads
-use Rattle.clearing.proofs.clear_bytes.Reads as clear-bytes-reads
 
 answer-requires : tie.Need-answer-requires
 answer-requires c κs = search needs

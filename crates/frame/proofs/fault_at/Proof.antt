@@ -6,9 +6,6 @@ use Rattle.frame.proofs.LineLaws.{read-open, read-other, read-unframed}
 use borrow.Author.Needs.{needs}
 use Rattle.frame.proofs.fault_at.Statement.{statement}
 use Rattle.frame.proofs.fault_at.Tie as tie
-use Rattle.frame.proofs.fault_at.Reads as reads
-use Rattle.frame.proofs.fault_at.Lts as lts
-use Rattle.digits.proofs.digits_at.Reads as digits-at-reads
 
 digits-at-requires : tie.Need-digits-at-requires
 digits-at-requires c κs = search needs

@@ -4,9 +4,6 @@ use Rattle.frame.proofs.LoneLaws.{lone, lone-behind}
 use borrow.Author.Needs.{needs}
 use Rattle.frame.proofs.read_frame.Statement.{statement}
 use Rattle.frame.proofs.read_frame.Tie as tie
-use Rattle.frame.proofs.read_frame.Reads as reads
-use Rattle.frame.proofs.read_frame.Lts as lts
-use Rattle.frame.proofs.read_line.Reads as read-line-reads
 
 read-line-requires : tie.Need-read-line-requires
 read-line-requires c κs = search needs

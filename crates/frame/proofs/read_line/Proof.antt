@@ -5,10 +5,6 @@ use Rattle.frame.proofs.FieldLaws.{look-framed, look-unframed, nowhere}
 use borrow.Author.Needs.{needs}
 use Rattle.frame.proofs.read_line.Statement.{statement}
 use Rattle.frame.proofs.read_line.Tie as tie
-use Rattle.frame.proofs.read_line.Reads as reads
-use Rattle.frame.proofs.read_line.Lts as lts
-use Rattle.frame.proofs.read.frame_at.Reads as frame-at-reads
-use Rattle.frame.proofs.unframed.Reads as unframed-reads
 
 frame-at-requires : tie.Need-frame-at-requires
 frame-at-requires c κs = search needs

@@ -6,9 +6,6 @@ use Rattle.frame.proofs.LineLaws.{read-end}
 use borrow.Author.Needs.{needs}
 use Rattle.frame.proofs.unframed.Statement.{statement}
 use Rattle.frame.proofs.unframed.Tie as tie
-use Rattle.frame.proofs.unframed.Reads as reads
-use Rattle.frame.proofs.unframed.Lts as lts
-use Rattle.frame.proofs.fault_at.Reads as fault-at-reads
 
 returns : tie.Need-returns
 returns c =

@@ -14,11 +14,6 @@ use Rattle.listing.proofs.PlaceLaws.{beyond, framed-there, gate-there, 
 use borrow.Author.Needs.{needs}
 use Rattle.listing.proofs.gate_at.Statement.{statement}
 use Rattle.listing.proofs.gate_at.Tie as tie
-use Rattle.listing.proofs.gate_at.Reads as reads
-use Rattle.listing.proofs.gate_at.Lts as lts
-use Rattle.frame.proofs.kinds.kind_at.Reads as kind-at-reads
-use Rattle.frame.proofs.read.operands_at.Reads as operands-at-reads
-use Rattle.listing.proofs.no_gate.Reads as no-gate-reads
 
 add-place : tie.Need-add-place
 add-place c = search needs

@@ -12,9 +12,6 @@ use Rattle.listing.proofs.PlaceLaws.{beyond, kind-there, gate-there, ga
 use borrow.Author.Needs.{needs}
 use Rattle.listing.proofs.op_at.Statement.{statement}
 use Rattle.listing.proofs.op_at.Tie as tie
-use Rattle.listing.proofs.op_at.Reads as reads
-use Rattle.listing.proofs.op_at.Lts as lts
-use Rattle.frame.proofs.kinds.kind_at.Reads as kind-at-reads
 
 add-place : tie.Need-add-place
 add-place c = search needs

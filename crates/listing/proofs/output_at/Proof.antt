@@ -9,10 +9,6 @@ use Rattle.listing.proofs.PlaceLaws.{beyond, framed-there, output-there
 use borrow.Author.Needs.{needs}
 use Rattle.listing.proofs.output_at.Statement.{statement}
 use Rattle.listing.proofs.output_at.Tie as tie
-use Rattle.listing.proofs.output_at.Reads as reads
-use Rattle.listing.proofs.output_at.Lts as lts
-use Rattle.frame.proofs.kinds.kind_at.Reads as kind-at-reads
-use Rattle.frame.proofs.read.output_at.Reads as output-at-reads
 
 add-place : tie.Need-add-place
 add-place c = search needs

@@ -6,9 +6,6 @@ use Rattle.netlist.proofs.ListLaws.{pair-is}
 use borrow.Author.Needs.{needs}
 use Rattle.netlist.proofs.pair_of.Statement.{statement}
 use Rattle.netlist.proofs.pair_of.Tie as tie
-use Rattle.netlist.proofs.pair_of.Reads as reads
-use Rattle.netlist.proofs.pair_of.Lts as lts
-use Rattle.netlist.proofs.list_bytes.Reads as list-bytes-reads
 
 list-bytes-requires : tie.Need-list-bytes-requires
 list-bytes-requires c κs = search needs

@@ -7,12 +7,6 @@ use Rattle.netlist.proofs.ListLaws.{left-refused, right-refused-both, f
 use borrow.Author.Needs.{needs}
 use Rattle.netlist.proofs.read_both.Statement.{statement}
 use Rattle.netlist.proofs.read_both.Tie as tie
-use Rattle.netlist.proofs.read_both.Reads as reads
-use Rattle.netlist.proofs.read_both.Lts as lts
-use Rattle.netlist.proofs.Part.refusal.Reads as refusal-reads
-use Rattle.netlist.proofs.pair_of.Reads as pair-of-reads
-use Rattle.netlist.proofs.read_part.Reads as read-part-reads
-use Rattle.netlist.proofs.read_right.Reads as read-right-reads
 
 -- the text, from the left list's counts by way of the call `read_part`
 abbrev text-of : tie.After-left → List ℕ

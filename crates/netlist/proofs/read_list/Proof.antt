@@ -4,12 +4,6 @@ use Rattle.netlist.proofs.ListLaws.{one-refused, one-more, one-read}
 use borrow.Author.Needs.{needs}
 use Rattle.netlist.proofs.read_list.Statement.{statement}
 use Rattle.netlist.proofs.read_list.Tie as tie
-use Rattle.netlist.proofs.read_list.Reads as reads
-use Rattle.netlist.proofs.read_list.Lts as lts
-use Rattle.netlist.proofs.Behind.refusal.Reads as Behind-refusal-reads
-use Rattle.netlist.proofs.Part.refusal.Reads as Part-refusal-reads
-use Rattle.netlist.proofs.lines.read_end.Reads as read-end-reads
-use Rattle.netlist.proofs.read_part.Reads as read-part-reads
 
 read-part-requires : tie.Need-read-part-requires
 read-part-requires c κs = search needs

@@ -11,11 +11,6 @@ use Rattle.netlist.proofs.ListLaws.{lists-refused, lists-more, lists-al
 use borrow.Author.Needs.{needs}
 use Rattle.netlist.proofs.read_lists.Statement.{statement}
 use Rattle.netlist.proofs.read_lists.Tie as tie
-use Rattle.netlist.proofs.read_lists.Reads as reads
-use Rattle.netlist.proofs.read_lists.Lts as lts
-use Rattle.netlist.proofs.Behind.refusal.Reads as refusal-reads
-use Rattle.netlist.proofs.lines.read_end.Reads as read-end-reads
-use Rattle.netlist.proofs.read_both.Reads as read-both-reads
 
 -- the text, from what both lists share by way of the call `read_both`
 abbrev text-of : tie.After-both → List ℕ

@@ -6,12 +6,6 @@ use Rattle.netlist.proofs.ListLaws.{list-refused, part-read}
 use borrow.Author.Needs.{needs}
 use Rattle.netlist.proofs.read_part.Statement.{statement}
 use Rattle.netlist.proofs.read_part.Tie as tie
-use Rattle.netlist.proofs.read_part.Reads as reads
-use Rattle.netlist.proofs.read_part.Lts as lts
-use Rattle.netlist.proofs.Behind.refusal.Reads as Behind-refusal-reads
-use Rattle.netlist.proofs.Part.refusal.Reads as Part-refusal-reads
-use Rattle.netlist.proofs.lines.read_body.Reads as read-body-reads
-use Rattle.netlist.proofs.lines.read_header.Reads as read-header-reads
 
 read-header-requires : tie.Need-read-header-requires
 read-header-requires c κs = search needs

@@ -6,11 +6,6 @@ use Rattle.netlist.proofs.ListLaws.{unlike-inputs, unlike-outputs, righ
 use borrow.Author.Needs.{needs}
 use Rattle.netlist.proofs.read_right.Statement.{statement}
 use Rattle.netlist.proofs.read_right.Tie as tie
-use Rattle.netlist.proofs.read_right.Reads as reads
-use Rattle.netlist.proofs.read_right.Lts as lts
-use Rattle.netlist.proofs.Behind.refusal.Reads as refusal-reads
-use Rattle.netlist.proofs.lines.read_body.Reads as read-body-reads
-use Rattle.netlist.proofs.lines.read_header.Reads as read-header-reads
 
 -- the function's entry, from the header by way of the call `read_header`
 abbrev start-of : tie.After-header → tie.Start

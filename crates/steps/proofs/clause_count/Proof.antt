@@ -3,8 +3,6 @@ use Rattle.model.specs.Clauses.{andClauses, xorClauses}
 use borrow.Author.Needs.{needs}
 use Rattle.steps.proofs.clause_count.Statement.{statement}
 use Rattle.steps.proofs.clause_count.Tie as tie
-use Rattle.steps.proofs.clause_count.Reads as reads
-use Rattle.steps.proofs.clause_count.Lts as lts
 
 enum-told : tie.Need-enum-told
 enum-told c = search needs

@@ -8,13 +8,6 @@ use Rattle.steps.proofs.StepLaws.{few, first-unused, second-unused, no-
 use borrow.Author.Needs.{needs}
 use Rattle.steps.proofs.extend_step.Statement.{statement}
 use Rattle.steps.proofs.extend_step.Tie as tie
-use Rattle.steps.proofs.extend_step.Reads as reads
-use Rattle.steps.proofs.extend_step.Lts as lts
-use Rattle.literal.proofs.Literal.of.Reads as of-reads
-use Rattle.literal.proofs.Literal.positive.Reads as positive-reads
-use Rattle.literal.proofs.Literal.variable.Reads as variable-reads
-use Rattle.steps.proofs.clause_count.Reads as clause-count-reads
-use Rattle.steps.proofs.push_gate.Reads as push-gate-reads
 
 of-requires : tie.Need-of-requires
 of-requires c κs = search needs

@@ -3,10 +3,6 @@ use Rattle.model.specs.Clauses.{andClauses, xorClauses}
 use borrow.Author.Needs.{needs}
 use Rattle.steps.proofs.gate_clause.Statement.{statement}
 use Rattle.steps.proofs.gate_clause.Tie as tie
-use Rattle.steps.proofs.gate_clause.Reads as reads
-use Rattle.steps.proofs.gate_clause.Lts as lts
-use Rattle.clause.proofs.gates.and_clause.Reads as and-clause-reads
-use Rattle.clause.proofs.gates.xor_clause.Reads as xor-clause-reads
 
 enum-told : tie.Need-enum-told
 enum-told c = search needs

@@ -3,8 +3,6 @@ use native.Mathlib.Omega.{arith}
 use borrow.Author.Tests.{lt-ltb}
 use Rattle.steps.proofs.is_clause.Statement.{statement}
 use Rattle.steps.proofs.is_clause.Tie as tie
-use Rattle.steps.proofs.is_clause.Reads as reads
-use Rattle.steps.proofs.is_clause.Lts as lts
 
 returns : tie.Need-returns
 returns c = rw (c .if1 .taken)

@@ -13,11 +13,6 @@ use Rattle.clause.proofs.PlaceLaws.{holds-own}
 use Rattle.steps.proofs.HeldLaws.{proper-at, gate-proper, gate-saved}
 use Rattle.steps.proofs.push_gate.Statement.{statement}
 use Rattle.steps.proofs.push_gate.Tie as tie
-use Rattle.steps.proofs.push_gate.Reads as reads
-use Rattle.steps.proofs.push_gate.Lts as lts
-use Rattle.steps.proofs.clause_count.Reads as clause-count-reads
-use Rattle.steps.proofs.gate_clause.Reads as gate-clause-reads
-use Rattle.clause.proofs.store.save.Reads as save-reads
 
 abbrev Inv-loop : tie.InvT-loop
 Inv-loop store₀ count op n x y total j₀ store j =

@@ -11,9 +11,6 @@ use Rattle.steps.proofs.StepLaws.{full, joined, joins, joined-tracks}
 use borrow.Author.Needs.{needs}
 use Rattle.steps.proofs.push_resolvent.Statement.{statement}
 use Rattle.steps.proofs.push_resolvent.Tie as tie
-use Rattle.steps.proofs.push_resolvent.Reads as reads
-use Rattle.steps.proofs.push_resolvent.Lts as lts
-use Rattle.clause.proofs.store.save_resolvent.Reads as save-resolvent-reads
 
 returns : tie.Need-returns
 returns c s t =

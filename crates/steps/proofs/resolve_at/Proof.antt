@@ -4,9 +4,6 @@ use Rattle.steps.proofs.HeldLaws.{bounds, held-stored}
 use borrow.Author.Needs.{needs}
 use Rattle.steps.proofs.resolve_at.Statement.{statement}
 use Rattle.steps.proofs.resolve_at.Tie as tie
-use Rattle.steps.proofs.resolve_at.Reads as reads
-use Rattle.steps.proofs.resolve_at.Lts as lts
-use Rattle.clause.proofs.resolution.resolve.Reads as resolve-reads
 
 mul-first : tie.Need-mul-first
 mul-first c = search needs

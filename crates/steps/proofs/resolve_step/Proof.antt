@@ -12,11 +12,6 @@ use Rattle.steps.specs.Progress.{Tracks}
 use Rattle.steps.proofs.StepLaws.{number, rising-at, resolvent-rising, first-missing, second-missing, pivot-missing, too-wide, resolvent-added}
 use Rattle.steps.proofs.resolve_step.Statement.{statement}
 use Rattle.steps.proofs.resolve_step.Tie as tie
-use Rattle.steps.proofs.resolve_step.Reads as reads
-use Rattle.steps.proofs.resolve_step.Lts as lts
-use Rattle.steps.proofs.is_clause.Reads as is-clause-reads
-use Rattle.steps.proofs.push_resolvent.Reads as push-resolvent-reads
-use Rattle.steps.proofs.resolve_at.Reads as resolve-at-reads
 
 -- ---- both numbers are those of clauses
 

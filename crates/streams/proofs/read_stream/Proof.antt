@@ -6,10 +6,6 @@ use lib.ListN.{length}
 use borrow.Author.Needs.{needs}
 use Rattle.streams.proofs.read_stream.Statement.{statement}
 use Rattle.streams.proofs.read_stream.Tie as tie
-use Rattle.streams.proofs.read_stream.Reads as reads
-use Rattle.streams.proofs.read_stream.Lts as lts
-use Rattle.io.proofs.count.Reads as count-reads
-use Rattle.libc.proofs.read.Reads as read-reads
 
 abbrev Inv-loop : tie.InvT-loop
 Inv-loop buf₀ done₀ buf done = (length buf ≡ length buf₀) × (done ≤ length buf)

@@ -3,8 +3,6 @@ use Rattle.values.proofs.BitLaws.{and-bits, xor-bits}
 use borrow.Author.Needs.{needs}
 use Rattle.values.proofs.gate_value.Statement.{statement}
 use Rattle.values.proofs.gate_value.Tie as tie
-use Rattle.values.proofs.gate_value.Reads as reads
-use Rattle.values.proofs.gate_value.Lts as lts
 
 enum-told : tie.Need-enum-told
 enum-told c = search needs

@@ -7,10 +7,6 @@ use Rattle.values.proofs.BitLaws.{literal-bits}
 use borrow.Author.Needs.{needs}
 use Rattle.values.proofs.literal_at.Statement.{statement}
 use Rattle.values.proofs.literal_at.Tie as tie
-use Rattle.values.proofs.literal_at.Reads as reads
-use Rattle.values.proofs.literal_at.Lts as lts
-use Rattle.literal.proofs.Literal.sign.Reads as sign-reads
-use Rattle.literal.proofs.Literal.variable.Reads as variable-reads
 
 variable-requires : tie.Need-variable-requires
 variable-requires c κs = search needs

@@ -13,11 +13,6 @@ use Rattle.values.proofs.ValueLaws.{output-read}
 use Rattle.values.proofs.BitLaws.{wordFrom, word-end, word-more, double, word-fits}
 use Rattle.values.proofs.read_word.Statement.{statement}
 use Rattle.values.proofs.read_word.Tie as tie
-use Rattle.values.proofs.read_word.Reads as reads
-use Rattle.values.proofs.read_word.Lts as lts
-use Rattle.literal.proofs.Literal.of.Reads as of-reads
-use Rattle.listing.proofs.output_at.Reads as output-at-reads
-use Rattle.values.proofs.literal_at.Reads as literal-at-reads
 
 abbrev Inv-loop : tie.InvT-loop
 Inv-loop text at values gates outputs k₀ word₀ k word =

@@ -14,12 +14,6 @@ use Rattle.values.specs.Values.{IsBit, HoldsValues}
 use Rattle.values.proofs.ValueLaws.{gate-stored}
 use Rattle.values.proofs.run_gates.Statement.{statement}
 use Rattle.values.proofs.run_gates.Tie as tie
-use Rattle.values.proofs.run_gates.Reads as reads
-use Rattle.values.proofs.run_gates.Lts as lts
-use Rattle.values.proofs.gate_value.Reads as gate-value-reads
-use Rattle.values.proofs.literal_at.Reads as literal-at-reads
-use Rattle.literal.proofs.Literal.of.Reads as of-reads
-use Rattle.listing.proofs.gate_at.Reads as gate-at-reads
 
 abbrev Inv-loop : tie.InvT-loop
 Inv-loop text at values₀ inputs gates first k₀ values k =

@@ -8,8 +8,6 @@ use lib.ListN.{length, length-set}
 use Rattle.values.proofs.BitLaws.{Stored, stored-none, stored-more}
 use Rattle.values.proofs.set_inputs.Statement.{statement}
 use Rattle.values.proofs.set_inputs.Tie as tie
-use Rattle.values.proofs.set_inputs.Reads as reads
-use Rattle.values.proofs.set_inputs.Lts as lts
 
 abbrev Inv-loop : tie.InvT-loop
 Inv-loop values₀ inputs pattern k₀ rest₀ values k rest = (k ≤ inputs) × (length values ≡ length values₀) × (1 + inputs ≤ length values) × Stored values pattern k rest

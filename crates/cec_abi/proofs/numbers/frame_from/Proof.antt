@@ -9,15 +9,6 @@ use Rattle.cec_abi.proofs.NumberLaws.{no-kind, two-numbers, outside, fo
 use borrow.Author.Needs.{needs}
 use Rattle.cec_abi.proofs.numbers.frame_from.Statement.{statement}
 use Rattle.cec_abi.proofs.numbers.frame_from.Tie as tie
-use Rattle.cec_abi.proofs.numbers.frame_from.Reads as reads
-use Rattle.cec_abi.proofs.numbers.frame_from.Lts as lts
-use Rattle.cec_abi.proofs.numbers.extend_from.Reads as extend-from-reads
-use Rattle.cec_abi.proofs.numbers.gate_from.Reads as gate-from-reads
-use Rattle.cec_abi.proofs.numbers.header_from.Reads as header-from-reads
-use Rattle.cec_abi.proofs.numbers.output_from.Reads as output-from-reads
-use Rattle.cec_abi.proofs.numbers.report_from.Reads as report-from-reads
-use Rattle.cec_abi.proofs.numbers.resolve_from.Reads as resolve-from-reads
-use Rattle.frame.proofs.kinds.kind_of.Reads as kind-of-reads
 
 array-read-first : tie.Need-array-read-first
 array-read-first c = search needs

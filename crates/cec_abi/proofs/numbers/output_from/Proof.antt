@@ -7,8 +7,6 @@ use Rattle.cec_abi.proofs.NumberLaws.{tests, framed, unfit}
 use borrow.Author.Needs.{needs}
 use Rattle.cec_abi.proofs.numbers.output_from.Statement.{statement}
 use Rattle.cec_abi.proofs.numbers.output_from.Tie as tie
-use Rattle.cec_abi.proofs.numbers.output_from.Reads as reads
-use Rattle.cec_abi.proofs.numbers.output_from.Lts as lts
 
 returns : tie.Need-returns
 unfolding limits widths fit

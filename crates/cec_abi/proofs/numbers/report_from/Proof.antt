@@ -8,8 +8,6 @@ use Rattle.cec_abi.proofs.NumberLaws.{tests, framed, unfit}
 use borrow.Author.Needs.{needs}
 use Rattle.cec_abi.proofs.numbers.report_from.Statement.{statement}
 use Rattle.cec_abi.proofs.numbers.report_from.Tie as tie
-use Rattle.cec_abi.proofs.numbers.report_from.Reads as reads
-use Rattle.cec_abi.proofs.numbers.report_from.Lts as lts
 
 returns : tie.Need-returns
 unfolding limits widths fit

@@ -5,8 +5,6 @@ use Rattle.cec_abi.proofs.ReplyLaws.{getD-behind}
 use borrow.Author.Needs.{needs}
 use Rattle.cec_abi.proofs.replies.field_at.Statement.{statement}
 use Rattle.cec_abi.proofs.replies.field_at.Tie as tie
-use Rattle.cec_abi.proofs.replies.field_at.Reads as reads
-use Rattle.cec_abi.proofs.replies.field_at.Lts as lts
 
 mul-value : tie.Need-mul-value
 mul-value c = search needs

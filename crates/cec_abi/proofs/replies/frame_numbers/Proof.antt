@@ -3,10 +3,6 @@ use Rattle.cec_abi.proofs.ReplyLaws.{spelt}
 use borrow.Author.Needs.{needs}
 use Rattle.cec_abi.proofs.replies.frame_numbers.Statement.{statement}
 use Rattle.cec_abi.proofs.replies.frame_numbers.Tie as tie
-use Rattle.cec_abi.proofs.replies.frame_numbers.Reads as reads
-use Rattle.cec_abi.proofs.replies.frame_numbers.Lts as lts
-use Rattle.cec_abi.proofs.replies.field_at.Reads as field-at-reads
-use Rattle.frame.proofs.fields.fields_of.Reads as fields-of-reads
 
 fields-of-requires : tie.Need-fields-of-requires
 fields-of-requires c κs = search needs

@@ -2,9 +2,6 @@
 use borrow.Author.Needs.{needs}
 use Rattle.cec_abi.proofs.replies.frame_reply.Statement.{statement}
 use Rattle.cec_abi.proofs.replies.frame_reply.Tie as tie
-use Rattle.cec_abi.proofs.replies.frame_reply.Reads as reads
-use Rattle.cec_abi.proofs.replies.frame_reply.Lts as lts
-use Rattle.cec_abi.proofs.replies.frame_numbers.Reads as frame-numbers-reads
 
 enum-known-answer : tie.Need-enum-known-answer
 enum-known-answer c = search needs

@@ -3,8 +3,6 @@ use Rattle.cec_abi.proofs.ReplyLaws.{counted, uncounted}
 use borrow.Author.Needs.{needs}
 use Rattle.cec_abi.proofs.replies.list_reply.Statement.{statement}
 use Rattle.cec_abi.proofs.replies.list_reply.Tie as tie
-use Rattle.cec_abi.proofs.replies.list_reply.Reads as reads
-use Rattle.cec_abi.proofs.replies.list_reply.Lts as lts
 
 enum-known-answer : tie.Need-enum-known-answer
 enum-known-answer c = search needs

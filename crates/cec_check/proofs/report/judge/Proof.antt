@@ -7,9 +7,6 @@ use Rattle.cec_check.proofs.ReportLaws.{too-long, checked}
 use borrow.Author.Needs.{needs}
 use Rattle.cec_check.proofs.report.judge.Statement.{statement}
 use Rattle.cec_check.proofs.report.judge.Tie as tie
-use Rattle.cec_check.proofs.report.judge.Reads as reads
-use Rattle.cec_check.proofs.report.judge.Lts as lts
-use Rattle.checker.proofs.check.Reads as check-reads
 
 returns : tie.Need-returns
 returns c = too-long (now (c .before .before .args .stream)) (c .if1 .taken)

@@ -6,9 +6,6 @@ use Rattle.cec_check.proofs.ReportLaws.{accepted-report, refused-report
 use borrow.Author.Needs.{needs}
 use Rattle.cec_check.proofs.report.line_of.Statement.{statement}
 use Rattle.cec_check.proofs.report.line_of.Tie as tie
-use Rattle.cec_check.proofs.report.line_of.Reads as reads
-use Rattle.cec_check.proofs.report.line_of.Lts as lts
-use Rattle.frame.proofs.report.report_line.Reads as report-line-reads
 
 enum-known-checked : tie.Need-enum-known-checked
 enum-known-checked c = search needs

@@ -5,10 +5,6 @@ use Rattle.cec_check.proofs.ReportLaws.{judge-fits}
 use borrow.Author.Needs.{needs}
 use Rattle.cec_check.proofs.report.report.Statement.{statement}
 use Rattle.cec_check.proofs.report.report.Tie as tie
-use Rattle.cec_check.proofs.report.report.Reads as reads
-use Rattle.cec_check.proofs.report.report.Lts as lts
-use Rattle.cec_check.proofs.report.judge.Reads as judge-reads
-use Rattle.cec_check.proofs.report.line_of.Reads as line-of-reads
 
 judge-requires : tie.Need-judge-requires
 judge-requires c κs = search needs

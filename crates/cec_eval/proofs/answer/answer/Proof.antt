@@ -5,11 +5,6 @@ use Rattle.cec_eval.proofs.LineLaws.{has-digits}
 use borrow.Author.Needs.{needs}
 use Rattle.cec_eval.proofs.answer.answer.Statement.{statement}
 use Rattle.cec_eval.proofs.answer.answer.Tie as tie
-use Rattle.cec_eval.proofs.answer.answer.Reads as reads
-use Rattle.cec_eval.proofs.answer.answer.Lts as lts
-use Rattle.cec_eval.proofs.answer.evaluate_stream.Reads as evaluate-stream-reads
-use Rattle.cec_eval.proofs.answer.refusal_line.Reads as refusal-line-reads
-use Rattle.cec_eval.proofs.answer.word_line.Reads as word-line-reads
 
 evaluate-stream-requires : tie.Need-evaluate-stream-requires
 evaluate-stream-requires c κs = search needs

@@ -6,9 +6,6 @@ use Rattle.cec_eval.proofs.LineLaws.{too-long, not-too-long}
 use borrow.Author.Needs.{needs}
 use Rattle.cec_eval.proofs.answer.evaluate_stream.Statement.{statement}
 use Rattle.cec_eval.proofs.answer.evaluate_stream.Tie as tie
-use Rattle.cec_eval.proofs.answer.evaluate_stream.Reads as reads
-use Rattle.cec_eval.proofs.answer.evaluate_stream.Lts as lts
-use Rattle.evaluator.proofs.evaluate.Reads as evaluate-reads
 
 returns : tie.Need-returns
 returns c = let a = c .before .before .args in too-long (now (a .stream)) (a .pattern) (c .if1 .taken)

@@ -3,9 +3,6 @@ use Rattle.cec_eval.proofs.LineLaws.{report-printed}
 use borrow.Author.Needs.{needs}
 use Rattle.cec_eval.proofs.answer.refusal_line.Statement.{statement}
 use Rattle.cec_eval.proofs.answer.refusal_line.Tie as tie
-use Rattle.cec_eval.proofs.answer.refusal_line.Reads as reads
-use Rattle.cec_eval.proofs.answer.refusal_line.Lts as lts
-use Rattle.frame.proofs.report.report_line.Reads as report-line-reads
 
 report-line-requires : tie.Need-report-line-requires
 report-line-requires c κs = search needs

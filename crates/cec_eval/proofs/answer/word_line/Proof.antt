@@ -3,9 +3,6 @@ use Rattle.cec_eval.proofs.LineLaws.{word-printed}
 use borrow.Author.Needs.{needs}
 use Rattle.cec_eval.proofs.answer.word_line.Statement.{statement}
 use Rattle.cec_eval.proofs.answer.word_line.Tie as tie
-use Rattle.cec_eval.proofs.answer.word_line.Reads as reads
-use Rattle.cec_eval.proofs.answer.word_line.Lts as lts
-use Rattle.frame.proofs.fields.put_hex.Reads as put-hex-reads
 
 slice-aggregate-put-hex : tie.Need-slice-aggregate-put-hex
 slice-aggregate-put-hex c = search needs

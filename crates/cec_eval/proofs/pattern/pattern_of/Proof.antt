@@ -8,9 +8,6 @@ use Rattle.cec_eval.proofs.PatternLaws.{other-length, other-byte, spell
 use borrow.Author.Needs.{needs}
 use Rattle.cec_eval.proofs.pattern.pattern_of.Statement.{statement}
 use Rattle.cec_eval.proofs.pattern.pattern_of.Tie as tie
-use Rattle.cec_eval.proofs.pattern.pattern_of.Reads as reads
-use Rattle.cec_eval.proofs.pattern.pattern_of.Lts as lts
-use Rattle.digits.proofs.read.word_at.Reads as word-at-reads
 
 returns : tie.Need-returns
 returns c = other-length _ (c .if1 .taken)

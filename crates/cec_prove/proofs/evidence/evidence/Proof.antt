@@ -8,10 +8,6 @@ use Rattle.cec_prove.proofs.StreamLaws.{proof-printed, report-printed}
 use borrow.Author.Needs.{needs}
 use Rattle.cec_prove.proofs.evidence.evidence.Statement.{statement}
 use Rattle.cec_prove.proofs.evidence.evidence.Tie as tie
-use Rattle.cec_prove.proofs.evidence.evidence.Reads as reads
-use Rattle.cec_prove.proofs.evidence.evidence.Lts as lts
-use Rattle.cec_prove.proofs.evidence.prove_stream.Reads as prove-stream-reads
-use Rattle.frame.proofs.write_frame.Reads as write-frame-reads
 
 prove-stream-requires : tie.Need-prove-stream-requires
 prove-stream-requires c κs = search needs

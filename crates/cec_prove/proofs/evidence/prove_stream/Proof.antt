@@ -9,10 +9,6 @@ use Rattle.cec_prove.proofs.StreamLaws.{too-long, answered}
 use borrow.Author.Needs.{needs}
 use Rattle.cec_prove.proofs.evidence.prove_stream.Statement.{statement}
 use Rattle.cec_prove.proofs.evidence.prove_stream.Tie as tie
-use Rattle.cec_prove.proofs.evidence.prove_stream.Reads as reads
-use Rattle.cec_prove.proofs.evidence.prove_stream.Lts as lts
-use Rattle.clearing.proofs.clear_numbers.Reads as clear-numbers-reads
-use Rattle.engine.proofs.prove.Reads as prove-reads
 
 clear-numbers-requires : tie.Need-clear-numbers-requires
 clear-numbers-requires c κs = search needs

@@ -2,8 +2,6 @@
 use borrow.Author.Needs.{needs}
 use Rattle.checker.proofs.replay.ended.Statement.{statement}
 use Rattle.checker.proofs.replay.ended.Tie as tie
-use Rattle.checker.proofs.replay.ended.Reads as reads
-use Rattle.checker.proofs.replay.ended.Lts as lts
 
 enum-known-got : tie.Need-enum-known-got
 enum-known-got c = search needs

@@ -3,10 +3,6 @@ use Rattle.checker.proofs.ReplayLaws.{frame-resolve, frame-extend, fram
 use borrow.Author.Needs.{needs}
 use Rattle.checker.proofs.replay.frame_step.Statement.{statement}
 use Rattle.checker.proofs.replay.frame_step.Tie as tie
-use Rattle.checker.proofs.replay.frame_step.Reads as reads
-use Rattle.checker.proofs.replay.frame_step.Lts as lts
-use Rattle.steps.proofs.extend_step.Reads as extend-step-reads
-use Rattle.steps.proofs.resolve_step.Reads as resolve-step-reads
 
 enum-known-frame : tie.Need-enum-known-frame
 enum-known-frame c = search needs

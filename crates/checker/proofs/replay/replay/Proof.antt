@@ -10,13 +10,6 @@ use Rattle.checker.specs.Replays.{RanTo}
 use Rattle.checker.proofs.ReplayLaws.{replay-ended, ran-none, ran-joined, ran-refused, ran-line, line-refused}
 use Rattle.checker.proofs.replay.replay.Statement.{statement}
 use Rattle.checker.proofs.replay.replay.Tie as tie
-use Rattle.checker.proofs.replay.replay.Reads as reads
-use Rattle.checker.proofs.replay.replay.Lts as lts
-use Rattle.checker.proofs.replay.ended.Reads as ended-reads
-use Rattle.checker.proofs.replay.frame_step.Reads as frame-step-reads
-use Rattle.checker.proofs.replay.run_resolves.Reads as run-resolves-reads
-use Rattle.checker.proofs.replay.stopped.Reads as stopped-reads
-use Rattle.frame.proofs.read_line.Reads as read-line-reads
 
 abbrev Inv-loop : tie.InvT-loop
 Inv-loop text store₀ room c₀ p₀ store c p = RanTo room text c₀ store₀ p₀ store c p

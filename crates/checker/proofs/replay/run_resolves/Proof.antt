@@ -12,11 +12,6 @@ use Rattle.checker.specs.Replays.{RanTo}
 use Rattle.checker.proofs.ReplayLaws.{ran-none, ran-joined, ran-refused, resolve-line, behind-resolve, ran-resolve, resolve-refused}
 use Rattle.checker.proofs.replay.run_resolves.Statement.{statement}
 use Rattle.checker.proofs.replay.run_resolves.Tie as tie
-use Rattle.checker.proofs.replay.run_resolves.Reads as reads
-use Rattle.checker.proofs.replay.run_resolves.Lts as lts
-use Rattle.frame.proofs.kinds.kind_at.Reads as kind-at-reads
-use Rattle.frame.proofs.read.resolve_at.Reads as resolve-at-reads
-use Rattle.steps.proofs.resolve_step.Reads as resolve-step-reads
 
 abbrev Inv-loop : tie.InvT-loop
 Inv-loop text store₀ room c₀ p₀ store c p = RanTo room text c₀ store₀ p₀ store c p × (c₀ .at ≤ c .at)

@@ -2,8 +2,6 @@
 use borrow.Author.Needs.{needs}
 use Rattle.checker.proofs.replay.stopped.Statement.{statement}
 use Rattle.checker.proofs.replay.stopped.Tie as tie
-use Rattle.checker.proofs.replay.stopped.Reads as reads
-use Rattle.checker.proofs.replay.stopped.Lts as lts
 
 enum-known-ran : tie.Need-enum-known-ran
 enum-known-ran c = search needs

@@ -13,13 +13,6 @@ use Rattle.checker.proofs.VerdictLaws.{capacity-fits, unread, begin-ref
 use borrow.Author.Needs.{needs}
 use Rattle.checker.proofs.verdict.verdict.Statement.{statement}
 use Rattle.checker.proofs.verdict.verdict.Tie as tie
-use Rattle.checker.proofs.verdict.verdict.Reads as reads
-use Rattle.checker.proofs.verdict.verdict.Lts as lts
-use Rattle.miter.proofs.begin.begin.Reads as begin-reads
-use Rattle.checker.proofs.replay.replay.Reads as replay-reads
-use Rattle.checker.proofs.verdict.capacity.Reads as capacity-reads
-use Rattle.netlist.proofs.Both.refusal.Reads as refusal-reads
-use Rattle.netlist.proofs.read_both.Reads as read-both-reads
 
 -- what was read, at the arm that has the pair
 lists-read : (c : tie.After-lists) → BothLists (now (c .before .before .before .before .before .before .args .text)) (c .lists .given .0 .0)

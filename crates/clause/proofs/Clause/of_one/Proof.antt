@@ -3,8 +3,6 @@ use borrow.Author.Needs.{needs}
 use Rattle.model.specs.Clauses.{join, insert}
 use Rattle.clause.proofs.Clause.of_one.Statement.{statement}
 use Rattle.clause.proofs.Clause.of_one.Tie as tie
-use Rattle.clause.proofs.Clause.of_one.Reads as reads
-use Rattle.clause.proofs.Clause.of_one.Lts as lts
 
 array-write-literals : tie.Need-array-write-literals
 array-write-literals c = search needs

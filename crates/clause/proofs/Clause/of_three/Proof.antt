@@ -4,10 +4,6 @@ use Rattle.clause.proofs.SetLaws.{three-first-two, three-outer-two, thr
 use borrow.Author.Needs.{needs}
 use Rattle.clause.proofs.Clause.of_three.Statement.{statement}
 use Rattle.clause.proofs.Clause.of_three.Tie as tie
-use Rattle.clause.proofs.Clause.of_three.Reads as reads
-use Rattle.clause.proofs.Clause.of_three.Lts as lts
-use Rattle.clause.proofs.Clause.of_two.Reads as of-two-reads
-use Rattle.clause.proofs.rising_three.Reads as rising-three-reads
 
 of-two-requires : tie.Need-of-two-requires
 of-two-requires c κs = search needs

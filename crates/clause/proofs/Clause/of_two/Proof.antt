@@ -4,10 +4,6 @@ use Rattle.clause.proofs.SetLaws.{two-rising, two-falling, two-equal}
 use borrow.Author.Needs.{needs}
 use Rattle.clause.proofs.Clause.of_two.Statement.{statement}
 use Rattle.clause.proofs.Clause.of_two.Tie as tie
-use Rattle.clause.proofs.Clause.of_two.Reads as reads
-use Rattle.clause.proofs.Clause.of_two.Lts as lts
-use Rattle.clause.proofs.Clause.of_one.Reads as of-one-reads
-use Rattle.clause.proofs.rising_two.Reads as rising-two-reads
 
 rising-two-requires : tie.Need-rising-two-requires
 rising-two-requires c κs = search needs

@@ -5,11 +5,6 @@ use Rattle.model.specs.Clauses.{andClauses}
 use borrow.Author.Needs.{needs}
 use Rattle.clause.proofs.gates.and_clause.Statement.{statement}
 use Rattle.clause.proofs.gates.and_clause.Tie as tie
-use Rattle.clause.proofs.gates.and_clause.Reads as reads
-use Rattle.clause.proofs.gates.and_clause.Lts as lts
-use Rattle.clause.proofs.Clause.of_three.Reads as of-three-reads
-use Rattle.clause.proofs.Clause.of_two.Reads as of-two-reads
-use Rattle.literal.proofs.Literal.complement.Reads as complement-reads
 
 complement-requires : tie.Need-complement-requires
 complement-requires c κs = search needs

@@ -5,10 +5,6 @@ use Rattle.model.specs.Clauses.{xorClauses}
 use borrow.Author.Needs.{needs}
 use Rattle.clause.proofs.gates.xor_clause.Statement.{statement}
 use Rattle.clause.proofs.gates.xor_clause.Tie as tie
-use Rattle.clause.proofs.gates.xor_clause.Reads as reads
-use Rattle.clause.proofs.gates.xor_clause.Lts as lts
-use Rattle.clause.proofs.Clause.of_three.Reads as of-three-reads
-use Rattle.literal.proofs.Literal.complement.Reads as complement-reads
 
 complement-requires : tie.Need-complement-requires
 complement-requires c κs = search needs

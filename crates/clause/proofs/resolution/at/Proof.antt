@@ -8,8 +8,6 @@ use Rattle.clause.proofs.PlaceLaws.{filled-at}
 use borrow.Author.Needs.{needs}
 use Rattle.clause.proofs.resolution.at.Statement.{statement}
 use Rattle.clause.proofs.resolution.at.Tie as tie
-use Rattle.clause.proofs.resolution.at.Reads as reads
-use Rattle.clause.proofs.resolution.at.Lts as lts
 
 mul-result : tie.Need-mul-result
 mul-result c = search needs

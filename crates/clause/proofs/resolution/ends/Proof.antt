@@ -4,8 +4,6 @@ use mathlib.Core.Bool.{true≢false}
 use borrow.Author.Tests.{eqb-true}
 use Rattle.clause.proofs.resolution.ends.Statement.{statement}
 use Rattle.clause.proofs.resolution.ends.Tie as tie
-use Rattle.clause.proofs.resolution.ends.Reads as reads
-use Rattle.clause.proofs.resolution.ends.Lts as lts
 
 returns : tie.Need-returns
 returns c e = eqb-true _ _ e

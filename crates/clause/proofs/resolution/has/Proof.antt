@@ -12,9 +12,6 @@ use Rattle.clause.specs.Sets.{Stores}
 use Rattle.clause.proofs.SetLaws.{holds-first, holds-rest}
 use Rattle.clause.proofs.resolution.has.Statement.{statement}
 use Rattle.clause.proofs.resolution.has.Tie as tie
-use Rattle.clause.proofs.resolution.has.Reads as reads
-use Rattle.clause.proofs.resolution.has.Lts as lts
-use Rattle.clause.proofs.resolution.head.Reads as head-reads
 
 abbrev Inv-loop : tie.InvT-loop
 Inv-loop s l met₀ i₀ met i = (i ≤ clauseWidth) × ((c : Clause) → Stores s c → met || holds l (drop i c) ≡ holds l c)

@@ -10,8 +10,6 @@ use Rattle.clause.proofs.PlaceLaws.{head-most, rising-from}
 use borrow.Author.Needs.{needs}
 use Rattle.clause.proofs.resolution.head.Statement.{statement}
 use Rattle.clause.proofs.resolution.head.Tie as tie
-use Rattle.clause.proofs.resolution.head.Reads as reads
-use Rattle.clause.proofs.resolution.head.Lts as lts
 
 mul-x : tie.Need-mul-x
 mul-x c = search needs

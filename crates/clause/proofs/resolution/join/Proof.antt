@@ -11,14 +11,6 @@ use Rattle.clause.specs.declared.resolution.Outcome.the-variants.{TooLon
 use Rattle.clause.proofs.JoinLaws.{Joining, joining-turn, joining-end, joining-long, too-long, refuses}
 use Rattle.clause.proofs.resolution.join.Statement.{statement}
 use Rattle.clause.proofs.resolution.join.Tie as tie
-use Rattle.clause.proofs.resolution.join.Reads as reads
-use Rattle.clause.proofs.resolution.join.Lts as lts
-use Rattle.clause.proofs.resolution.at.Reads as at-reads
-use Rattle.clause.proofs.resolution.at_most.Reads as at-most-reads
-use Rattle.clause.proofs.resolution.ends.Reads as ends-reads
-use Rattle.clause.proofs.resolution.joined.Reads as joined-reads
-use Rattle.clause.proofs.resolution.least.Reads as least-reads
-use Rattle.clause.proofs.resolution.refusal.Reads as refusal-reads
 
 abbrev Inv-loop : tie.InvT-loop
 Inv-loop a b literals₀ len₀ i₀ j₀ k₀ literals len i j k =

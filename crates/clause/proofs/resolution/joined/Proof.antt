@@ -9,8 +9,6 @@ use Rattle.clause.specs.Sets.{fitted, Holds}
 use Rattle.clause.proofs.PlaceLaws.{filled-front, holds-own}
 use Rattle.clause.proofs.resolution.joined.Statement.{statement}
 use Rattle.clause.proofs.resolution.joined.Tie as tie
-use Rattle.clause.proofs.resolution.joined.Reads as reads
-use Rattle.clause.proofs.resolution.joined.Lts as lts
 
 returns : tie.Need-returns
 unfolding fitted guard

@@ -11,14 +11,6 @@ use Rattle.clause.proofs.JoinLaws.{refuses, no-first, no-second, both-t
 use borrow.Author.Needs.{needs}
 use Rattle.clause.proofs.resolution.resolve.Statement.{statement}
 use Rattle.clause.proofs.resolution.resolve.Tie as tie
-use Rattle.clause.proofs.resolution.resolve.Reads as reads
-use Rattle.clause.proofs.resolution.resolve.Lts as lts
-use Rattle.clause.proofs.resolution.has.Reads as has-reads
-use Rattle.clause.proofs.resolution.join.Reads as join-reads
-use Rattle.clause.proofs.resolution.refusal.Reads as refusal-reads
-use Rattle.clause.proofs.resolution.without.Reads as without-reads
-use Rattle.literal.proofs.Literal.negative.Reads as negative-reads
-use Rattle.literal.proofs.Literal.positive.Reads as positive-reads
 
 refusal-requires : tie.Need-refusal-requires
 refusal-requires c κs = search needs

@@ -14,10 +14,6 @@ use Rattle.clause.proofs.SetLaws.{rising-without, length-without}
 use Rattle.clause.proofs.PlaceLaws.{place-out, filled-next}
 use Rattle.clause.proofs.resolution.without.Statement.{statement}
 use Rattle.clause.proofs.resolution.without.Tie as tie
-use Rattle.clause.proofs.resolution.without.Reads as reads
-use Rattle.clause.proofs.resolution.without.Lts as lts
-use Rattle.clause.proofs.resolution.below.Reads as below-reads
-use Rattle.clause.proofs.resolution.head.Reads as head-reads
 
 abbrev Inv-loop : tie.InvT-loop
 Inv-loop s l literals₀ i₀ literals i =

@@ -9,8 +9,6 @@ use Rattle.clause.proofs.StoreLaws.{entry-none, entry-some, literal-bel
 use borrow.Author.Needs.{needs}
 use Rattle.clause.proofs.store.entry.Statement.{statement}
 use Rattle.clause.proofs.store.entry.Tie as tie
-use Rattle.clause.proofs.store.entry.Reads as reads
-use Rattle.clause.proofs.store.entry.Lts as lts
 
 mul-result : tie.Need-mul-result
 mul-result c = search needs

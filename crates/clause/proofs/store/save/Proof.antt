@@ -12,9 +12,6 @@ use Rattle.clause.specs.Sets.{literalsOf}
 use Rattle.clause.proofs.StoreLaws.{stored-length, store-next}
 use Rattle.clause.proofs.store.save.Statement.{statement}
 use Rattle.clause.proofs.store.save.Tie as tie
-use Rattle.clause.proofs.store.save.Reads as reads
-use Rattle.clause.proofs.store.save.Lts as lts
-use Rattle.clause.proofs.store.entry.Reads as entry-reads
 
 abbrev Inv-loop : tie.InvT-loop
 Inv-loop store₀ k c at i₀ store i =

@@ -14,9 +14,6 @@ use Rattle.clause.proofs.StoreLaws.{stored-length, store-next, number-a
 use Rattle.clause.proofs.PlaceLaws.{filled-at}
 use Rattle.clause.proofs.store.save_resolvent.Statement.{statement}
 use Rattle.clause.proofs.store.save_resolvent.Tie as tie
-use Rattle.clause.proofs.store.save_resolvent.Reads as reads
-use Rattle.clause.proofs.store.save_resolvent.Lts as lts
-use Rattle.clause.proofs.store.number.Reads as number-reads
 
 abbrev Inv-loop : tie.InvT-loop
 Inv-loop store₀ k clause first i₀ store i =

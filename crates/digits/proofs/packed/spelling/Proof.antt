@@ -6,8 +6,6 @@ use Rattle.digits.proofs.PackLaws.{spelt}
 use borrow.Author.Needs.{needs}
 use Rattle.digits.proofs.packed.spelling.Statement.{statement}
 use Rattle.digits.proofs.packed.spelling.Tie as tie
-use Rattle.digits.proofs.packed.spelling.Reads as reads
-use Rattle.digits.proofs.packed.spelling.Lts as lts
 
 add-result : tie.Need-add-result
 add-result c = search needs

@@ -3,8 +3,6 @@ use native.Mathlib.Omega.{arith}
 use Rattle.digits.proofs.PackLaws.{lane, no-wrap, few-values, no-values, four-values}
 use Rattle.digits.proofs.packed.values_of.Statement.{statement}
 use Rattle.digits.proofs.packed.values_of.Tie as tie
-use Rattle.digits.proofs.packed.values_of.Reads as reads
-use Rattle.digits.proofs.packed.values_of.Lts as lts
 
 mul-figures : tie.Need-mul-figures
 mul-figures c = record { fits = omega (arith, no-wrap (c .args .bytes) (omega arith)) }

@@ -3,8 +3,6 @@ use Rattle.digits.proofs.PackLaws.{word-parts}
 use borrow.Author.Needs.{needs}
 use Rattle.digits.proofs.packed.word_of.Statement.{statement}
 use Rattle.digits.proofs.packed.word_of.Tie as tie
-use Rattle.digits.proofs.packed.word_of.Reads as reads
-use Rattle.digits.proofs.packed.word_of.Lts as lts
 
 mul-pairs : tie.Need-mul-pairs
 mul-pairs c = search needs

@@ -5,9 +5,6 @@ use Rattle.digits.proofs.ReadLaws.{two-digits}
 use borrow.Author.Needs.{needs}
 use Rattle.digits.proofs.read.byte_at.Statement.{statement}
 use Rattle.digits.proofs.read.byte_at.Tie as tie
-use Rattle.digits.proofs.read.byte_at.Reads as reads
-use Rattle.digits.proofs.read.byte_at.Lts as lts
-use Rattle.digits.proofs.read.value.Reads as value-reads
 
 shared-slice-read-value : tie.Need-shared-slice-read-value
 shared-slice-read-value c = search needs

@@ -5,10 +5,6 @@ use Rattle.digits.proofs.ReadLaws.{six-digits, no-low, no-triple}
 use borrow.Author.Needs.{needs}
 use Rattle.digits.proofs.read.triple_at.Statement.{statement}
 use Rattle.digits.proofs.read.triple_at.Tie as tie
-use Rattle.digits.proofs.read.triple_at.Reads as reads
-use Rattle.digits.proofs.read.triple_at.Lts as lts
-use Rattle.digits.proofs.read.byte_at.Reads as byte-at-reads
-use Rattle.digits.proofs.read.word_at.Reads as word-at-reads
 
 byte-at-requires : tie.Need-byte-at-requires
 byte-at-requires c κs = search needs

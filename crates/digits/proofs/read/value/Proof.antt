@@ -9,9 +9,6 @@ use Rattle.digits.proofs.ReadLaws.{one-digit}
 use borrow.Author.Needs.{needs}
 use Rattle.digits.proofs.read.value.Statement.{statement}
 use Rattle.digits.proofs.read.value.Tie as tie
-use Rattle.digits.proofs.read.value.Reads as reads
-use Rattle.digits.proofs.read.value.Lts as lts
-use Rattle.digits.proofs.is_digit.Reads as is-digit-reads
 
 is-digit-requires : tie.Need-is-digit-requires
 is-digit-requires c κs = search needs

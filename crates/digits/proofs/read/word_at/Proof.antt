@@ -4,11 +4,6 @@ use Rattle.digits.proofs.ReadLaws.{four-digits, no-word}
 use borrow.Author.Needs.{needs}
 use Rattle.digits.proofs.read.word_at.Statement.{statement}
 use Rattle.digits.proofs.read.word_at.Tie as tie
-use Rattle.digits.proofs.read.word_at.Reads as reads
-use Rattle.digits.proofs.read.word_at.Lts as lts
-use Rattle.digits.proofs.packed.pack.Reads as pack-reads
-use Rattle.digits.proofs.packed.values_of.Reads as values-of-reads
-use Rattle.digits.proofs.packed.word_of.Reads as word-of-reads
 
 shared-slice-read-a : tie.Need-shared-slice-read-a
 shared-slice-read-a c = search needs

@@ -13,9 +13,6 @@ use Rattle.emit.proofs.BeginLaws.{keeps-none, start-more}
 use borrow.Author.Needs.{needs}
 use Rattle.emit.proofs.begin.start_links.Statement.{statement}
 use Rattle.emit.proofs.begin.start_links.Tie as tie
-use Rattle.emit.proofs.begin.start_links.Reads as reads
-use Rattle.emit.proofs.begin.start_links.Lts as lts
-use Rattle.table.proofs.links.keep.Reads as keep-reads
 
 abbrev Inv-loop : tie.InvT-loop
 Inv-loop work₀ start inputs k₀ work k =

@@ -2,15 +2,11 @@
 use mathlib.Core.Path.{refl, _∙_}
 use mathlib.Core.Bool.{false}
 use Rattle.fold_laws.specs.Table.{repOf}
-use Rattle.derive.specs.Known.{literalsOf, numbersOf}
+use Rattle.derivation.specs.Known.{literalsOf, numbersOf}
 use Rattle.emit.proofs.NormalLaws.{normal-kept, normal-swapped}
 use borrow.Author.Needs.{needs}
 use Rattle.emit.proofs.normal.normal_and.Statement.{statement}
 use Rattle.emit.proofs.normal.normal_and.Tie as tie
-use Rattle.emit.proofs.normal.normal_and.Reads as reads
-use Rattle.emit.proofs.normal.normal_and.Lts as lts
-use Rattle.emit.proofs.normal.swap_and.Reads as swap-and-reads
-use Rattle.table.proofs.rows.representative.Reads as representative-reads
 
 representative-requires : tie.Need-representative-requires
 representative-requires c κs = search needs

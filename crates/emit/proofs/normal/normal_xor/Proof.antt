@@ -4,17 +4,11 @@ use mathlib.Core.Bool.{true}
 use lib.ListN.{length}
 use Rattle.fold_laws.specs.Table.{repOf}
 use Rattle.emit_laws.specs.Gates.{unsigned}
-use Rattle.derive.specs.Known.{literalsOf, numbersOf}
+use Rattle.derivation.specs.Known.{literalsOf, numbersOf}
 use Rattle.emit.proofs.NormalLaws.{unsigned-x, unsigned-y, normal-kept, normal-swapped}
 use borrow.Author.Needs.{needs}
 use Rattle.emit.proofs.normal.normal_xor.Statement.{statement}
 use Rattle.emit.proofs.normal.normal_xor.Tie as tie
-use Rattle.emit.proofs.normal.normal_xor.Reads as reads
-use Rattle.emit.proofs.normal.normal_xor.Lts as lts
-use Rattle.emit.proofs.normal.swap_xor.Reads as swap-xor-reads
-use Rattle.emit.proofs.normal.turn.Reads as turn-reads
-use Rattle.literal.proofs.Literal.sign.Reads as sign-reads
-use Rattle.table.proofs.rows.representative.Reads as representative-reads
 
 representative-requires : tie.Need-representative-requires
 representative-requires c κs = search needs

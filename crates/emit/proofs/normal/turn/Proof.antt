@@ -2,15 +2,11 @@
 use mathlib.Core.Path.{refl, ap, _∙_}
 use mathlib.Core.Bool.{true, false}
 use Rattle.emit_laws.specs.Gates as model
-use Rattle.derive.specs.Known.{literalsOf}
+use Rattle.derivation.specs.Known.{literalsOf}
 use Rattle.emit.proofs.NormalLaws.{turned-twice}
 use borrow.Author.Needs.{needs}
 use Rattle.emit.proofs.normal.turn.Statement.{statement}
 use Rattle.emit.proofs.normal.turn.Tie as tie
-use Rattle.emit.proofs.normal.turn.Reads as reads
-use Rattle.emit.proofs.normal.turn.Lts as lts
-use Rattle.emit.proofs.normal.turn_first.Reads as turn-first-reads
-use Rattle.emit.proofs.normal.turn_second.Reads as turn-second-reads
 
 turn-first-requires : tie.Need-turn-first-requires
 turn-first-requires c κs = search needs

@@ -1,13 +1,8 @@
 -- A cut, ¬z, and a cut of the two: the lines of the tree in its order.
 use borrow.Author.Needs.{needs}
-use Rattle.derive.proofs.EmitLaws.{emits-cut}
+use Rattle.derivation.proofs.EmitLaws.{emits-cut}
 use Rattle.emit.proofs.outputs.next_out.Statement.{statement}
 use Rattle.emit.proofs.outputs.next_out.Tie as tie
-use Rattle.emit.proofs.outputs.next_out.Reads as reads
-use Rattle.emit.proofs.outputs.next_out.Lts as lts
-use Rattle.derive.proofs.lines.resolve_on.Reads as resolve-on-reads
-use Rattle.emit.proofs.outputs.out.Reads as out-reads
-use Rattle.literal.proofs.Literal.positive.Reads as positive-reads
 
 add-resolve-on : tie.Need-add-resolve-on
 add-resolve-on c = search needs

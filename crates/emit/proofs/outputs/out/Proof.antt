@@ -5,17 +5,10 @@ use native.Mathlib.Omega.{arith}
 use borrow.Author.Needs.{needs}
 use Rattle.emit_laws.specs.Gates.{linkOf}
 use Rattle.fold_laws.specs.Table.{repOf}
-use Rattle.derive.proofs.EmitLaws.{emits-cut}
+use Rattle.derivation.proofs.EmitLaws.{emits-cut}
 use Rattle.emit.proofs.OutputLaws.{out-false, out-true, out-both}
 use Rattle.emit.proofs.outputs.out.Statement.{statement}
 use Rattle.emit.proofs.outputs.out.Tie as tie
-use Rattle.emit.proofs.outputs.out.Reads as reads
-use Rattle.emit.proofs.outputs.out.Lts as lts
-use Rattle.derive.proofs.lines.resolve_on.Reads as resolve-on-reads
-use Rattle.derive.proofs.subst.subst2.Reads as subst2-reads
-use Rattle.literal.proofs.Literal.complement.Reads as complement-reads
-use Rattle.literal.proofs.Literal.of.Reads as of-reads
-use Rattle.table.proofs.rows.representative.Reads as representative-reads
 
 of-requires : tie.Need-of-requires
 of-requires c κs = search needs

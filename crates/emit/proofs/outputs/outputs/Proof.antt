@@ -15,23 +15,12 @@ use Rattle.emit_laws.specs.Trees.{Tree}
 use Rattle.emit_laws.specs.Gates.{linkOf}
 use Rattle.miter.specs.Miters.{PairStands}
 use Rattle.miter.proofs.MiterLaws.{within}
-use Rattle.derive.specs.declared.lines.Derived.{Derived}
-use Rattle.derive.specs.Emission.{Few}
-use Rattle.derive.specs.Known.{Known}
+use Rattle.derivation.specs.declared.lines.Derived.{Derived}
+use Rattle.derivation.specs.Emission.{Few}
+use Rattle.derivation.specs.Known.{Known}
 use Rattle.emit.proofs.OutputLaws.{UpTo, up-to-first, up-to-next, up-to-all, Begin, z-below, last-tree}
 use Rattle.emit.proofs.outputs.outputs.Statement.{statement}
 use Rattle.emit.proofs.outputs.outputs.Tie as tie
-use Rattle.emit.proofs.outputs.outputs.Reads as reads
-use Rattle.emit.proofs.outputs.outputs.Lts as lts
-use Rattle.derive.proofs.lines.resolve_on.Reads as resolve-on-reads
-use Rattle.emit.proofs.outputs.next_out.Reads as next-out-reads
-use Rattle.emit.proofs.outputs.out.Reads as out-reads
-use Rattle.literal.proofs.Literal.positive.Reads as positive-reads
-use Rattle.miter.proofs.both.outputs_of.Reads as outputs-of-reads
-use Rattle.miter.proofs.clauses.first_w_clause.Reads as first-w-clause-reads
-use Rattle.miter.proofs.clauses.last_clause.Reads as last-clause-reads
-use Rattle.netlist.proofs.Pair.first_w.Reads as first-w-reads
-use Rattle.netlist.proofs.Pair.first_z.Reads as first-z-reads
 
 abbrev Inv-loop : tie.InvT-loop
 Inv-loop text pair work start proof₀ kz count z first-w kw run₀ w₀ i₀ proof run w i =

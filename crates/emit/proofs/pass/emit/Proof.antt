@@ -10,20 +10,12 @@ use Rattle.fold_laws.specs.Entries.{length-table}
 use Rattle.fold_laws.specs.Engine.{bothTable}
 use Rattle.emit_laws.specs.Emit.{startLinks}
 use Rattle.table.specs.Links.{Keeps}
-use Rattle.derive.specs.Known.{Known}
+use Rattle.derivation.specs.Known.{Known}
 use Rattle.emit.specs.declared.pass.Progress.{Progress}
 use Rattle.emit.proofs.PassLaws.{known-first, emitted}
 use borrow.Author.Needs.{needs}
 use Rattle.emit.proofs.pass.emit.Statement.{statement}
 use Rattle.emit.proofs.pass.emit.Tie as tie
-use Rattle.emit.proofs.pass.emit.Reads as reads
-use Rattle.emit.proofs.pass.emit.Lts as lts
-use Rattle.emit.proofs.begin.start_links.Reads as start-links-reads
-use Rattle.emit.proofs.outputs.outputs.Reads as outputs-reads
-use Rattle.emit.proofs.pass.gates.Reads as gates-reads
-use Rattle.miter.proofs.clauses.first_behind.Reads as first-behind-reads
-use Rattle.miter.proofs.clauses.first_z_clause.Reads as first-z-clause-reads
-use Rattle.netlist.proofs.Pair.nets.Reads as nets-reads
 
 nets-requires : tie.Need-nets-requires
 nets-requires c κs = search needs

@@ -5,8 +5,6 @@ use Rattle.emit.proofs.PassLaws.{slots-plain, slots-own, slots-linked}
 use borrow.Author.Needs.{needs}
 use Rattle.emit.proofs.pass.exchange_links.Statement.{statement}
 use Rattle.emit.proofs.pass.exchange_links.Tie as tie
-use Rattle.emit.proofs.pass.exchange_links.Reads as reads
-use Rattle.emit.proofs.pass.exchange_links.Lts as lts
 
 returns : tie.Need-returns
 returns c = ((refl, refl), λ p q s ts f. rw (not-true (c .before .args .turned) (c .if1 .taken)) (slots-plain ts f))

@@ -5,14 +5,6 @@ use Rattle.emit.proofs.PassLaws.{next-normal, normal-is}
 use borrow.Author.Needs.{needs}
 use Rattle.emit.proofs.pass.gate_lines.Statement.{statement}
 use Rattle.emit.proofs.pass.gate_lines.Tie as tie
-use Rattle.emit.proofs.pass.gate_lines.Reads as reads
-use Rattle.emit.proofs.pass.gate_lines.Lts as lts
-use Rattle.derive.proofs.ands.and_gate.Reads as and-gate-reads
-use Rattle.derive.proofs.xors.xor_gate.Reads as xor-gate-reads
-use Rattle.emit.proofs.normal.normal_and.Reads as normal-and-reads
-use Rattle.emit.proofs.normal.normal_xor.Reads as normal-xor-reads
-use Rattle.emit.proofs.pass.exchange_links.Reads as exchange-links-reads
-use Rattle.literal.proofs.Literal.sign.Reads as sign-reads
 
 enum-told : tie.Need-enum-told
 enum-told c = search needs

@@ -11,16 +11,11 @@ use Rattle.laws.specs.MiterOrder.{length-gates}
 use Rattle.fold_laws.specs.Table.{Entry}
 use Rattle.emit_laws.specs.Emit.{startLinks}
 use Rattle.miter.specs.Miters.{PairStands}
-use Rattle.derive.specs.Known.{Known}
+use Rattle.derivation.specs.Known.{Known}
 use Rattle.emit.proofs.PassLaws.{UpTo, up-to-none, up-to-next, reads-done, up-to-all}
 use borrow.Author.Needs.{needs}
 use Rattle.emit.proofs.pass.gates.Statement.{statement}
 use Rattle.emit.proofs.pass.gates.Tie as tie
-use Rattle.emit.proofs.pass.gates.Reads as reads
-use Rattle.emit.proofs.pass.gates.Lts as lts
-use Rattle.miter.proofs.both.gate_of.Reads as gate-of-reads
-use Rattle.emit.proofs.pass.one_gate.Reads as one-gate-reads
-use Rattle.netlist.proofs.Pair.first_gate.Reads as first-gate-reads
 
 abbrev Inv-loop : tie.InvT-loop
 Inv-loop text pair work₀ start proof₀ first total done₀ i₀ work proof done i =

@@ -13,13 +13,6 @@ use Rattle.emit.proofs.PassLaws.{first-next, gate-done}
 use borrow.Author.Needs.{needs}
 use Rattle.emit.proofs.pass.one_gate.Statement.{statement}
 use Rattle.emit.proofs.pass.one_gate.Tie as tie
-use Rattle.emit.proofs.pass.one_gate.Reads as reads
-use Rattle.emit.proofs.pass.one_gate.Lts as lts
-use Rattle.miter.proofs.clauses.behind.Reads as behind-reads
-use Rattle.emit.proofs.pass.gate_lines.Reads as gate-lines-reads
-use Rattle.literal.proofs.Literal.of.Reads as of-reads
-use Rattle.literal.proofs.Literal.positive.Reads as positive-reads
-use Rattle.table.proofs.links.keep.Reads as keep-reads
 
 cast-positive : tie.Need-cast-positive
 cast-positive c = search needs

@@ -3,11 +3,6 @@ use Rattle.fold.proofs.EntryLaws.{linked-is}
 use borrow.Author.Needs.{needs}
 use Rattle.fold.proofs.entry.entered.Statement.{statement}
 use Rattle.fold.proofs.entry.entered.Tie as tie
-use Rattle.fold.proofs.entry.entered.Reads as reads
-use Rattle.fold.proofs.entry.entered.Lts as lts
-use Rattle.fold.proofs.entry.found.Reads as found-reads
-use Rattle.fold.proofs.entry.signed.Reads as signed-reads
-use Rattle.table.proofs.rows.keyless.Reads as keyless-reads
 
 enum-known-folded : tie.Need-enum-known-folded
 enum-known-folded c = search needs

@@ -7,14 +7,6 @@ use Rattle.fold.proofs.EntryLaws.{is-entry}
 use borrow.Author.Needs.{needs}
 use Rattle.fold.proofs.entry.entry.Statement.{statement}
 use Rattle.fold.proofs.entry.entry.Tie as tie
-use Rattle.fold.proofs.entry.entry.Reads as reads
-use Rattle.fold.proofs.entry.entry.Lts as lts
-use Rattle.fold.proofs.entry.entered.Reads as entered-reads
-use Rattle.fold.proofs.operands.and_of.Reads as and-of-reads
-use Rattle.fold.proofs.operands.xor_of.Reads as xor-of-reads
-use Rattle.literal.proofs.Literal.of.Reads as of-reads
-use Rattle.literal.proofs.Literal.sign.Reads as sign-reads
-use Rattle.table.proofs.rows.representative.Reads as representative-reads
 
 of-requires : tie.Need-of-requires
 of-requires c κs = search needs

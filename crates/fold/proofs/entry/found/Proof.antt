@@ -6,13 +6,6 @@ use Rattle.fold.proofs.EntryLaws.{found-old, found-none}
 use borrow.Author.Needs.{needs}
 use Rattle.fold.proofs.entry.found.Statement.{statement}
 use Rattle.fold.proofs.entry.found.Tie as tie
-use Rattle.fold.proofs.entry.found.Reads as reads
-use Rattle.fold.proofs.entry.found.Lts as lts
-use Rattle.fold.proofs.entry.signed.Reads as signed-reads
-use Rattle.literal.proofs.Literal.positive.Reads as positive-reads
-use Rattle.table.proofs.buckets.find.Reads as find-reads
-use Rattle.table.proofs.rows.core_of.Reads as core-of-reads
-use Rattle.table.proofs.rows.keyless.Reads as keyless-reads
 
 find-requires : tie.Need-find-requires
 find-requires c κs = search needs

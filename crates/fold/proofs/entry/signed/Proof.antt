@@ -2,9 +2,6 @@
 use borrow.Author.Needs.{needs}
 use Rattle.fold.proofs.entry.signed.Statement.{statement}
 use Rattle.fold.proofs.entry.signed.Tie as tie
-use Rattle.fold.proofs.entry.signed.Reads as reads
-use Rattle.fold.proofs.entry.signed.Lts as lts
-use Rattle.literal.proofs.Literal.complement.Reads as complement-reads
 
 complement-requires : tie.Need-complement-requires
 complement-requires c κs = search needs

@@ -5,11 +5,6 @@ use Rattle.fold.proofs.OperandLaws.{by-order}
 use borrow.Author.Needs.{needs}
 use Rattle.fold.proofs.operands.and_of.Statement.{statement}
 use Rattle.fold.proofs.operands.and_of.Tie as tie
-use Rattle.fold.proofs.operands.and_of.Reads as reads
-use Rattle.fold.proofs.operands.and_of.Lts as lts
-use Rattle.fold.proofs.operands.and_ordered.Reads as and-ordered-reads
-use Rattle.fold.proofs.operands.higher.Reads as higher-reads
-use Rattle.fold.proofs.operands.lower.Reads as lower-reads
 
 lower-requires : tie.Need-lower-requires
 lower-requires c κs = search needs

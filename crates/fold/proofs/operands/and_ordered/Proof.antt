@@ -5,10 +5,6 @@ use Rattle.fold.proofs.OperandLaws.{and-nil, and-true, and-same, and-op
 use borrow.Author.Needs.{needs}
 use Rattle.fold.proofs.operands.and_ordered.Statement.{statement}
 use Rattle.fold.proofs.operands.and_ordered.Tie as tie
-use Rattle.fold.proofs.operands.and_ordered.Reads as reads
-use Rattle.fold.proofs.operands.and_ordered.Lts as lts
-use Rattle.literal.proofs.Literal.complement.Reads as complement-reads
-use Rattle.literal.proofs.Literal.of.Reads as of-reads
 
 returns : tie.Need-returns
 returns c = and-nil _ _ (c .if1 .taken)

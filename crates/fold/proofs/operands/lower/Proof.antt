@@ -2,8 +2,6 @@
 use borrow.Author.Tests.{le-leb, lt-leb}
 use Rattle.fold.proofs.operands.lower.Statement.{statement}
 use Rattle.fold.proofs.operands.lower.Tie as tie
-use Rattle.fold.proofs.operands.lower.Reads as reads
-use Rattle.fold.proofs.operands.lower.Lts as lts
 
 returns : tie.Need-returns
 returns c = rw (le-leb _ _ (c .if1 .taken))

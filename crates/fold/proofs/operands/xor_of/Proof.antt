@@ -5,12 +5,6 @@ use Rattle.fold.proofs.OperandLaws.{by-order, unsigned}
 use borrow.Author.Needs.{needs}
 use Rattle.fold.proofs.operands.xor_of.Statement.{statement}
 use Rattle.fold.proofs.operands.xor_of.Tie as tie
-use Rattle.fold.proofs.operands.xor_of.Reads as reads
-use Rattle.fold.proofs.operands.xor_of.Lts as lts
-use Rattle.fold.proofs.operands.higher.Reads as higher-reads
-use Rattle.fold.proofs.operands.lower.Reads as lower-reads
-use Rattle.fold.proofs.operands.xor_ordered.Reads as xor-ordered-reads
-use Rattle.literal.proofs.Literal.unsigned.Reads as unsigned-reads
 
 unsigned-requires : tie.Need-unsigned-requires
 unsigned-requires c κs = search needs

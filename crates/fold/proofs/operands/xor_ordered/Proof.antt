@@ -4,10 +4,7 @@ use Rattle.fold_laws.specs.Cases.Made.{is}
 use Rattle.fold.proofs.OperandLaws.{xor-pass, xor-same, xor-key}
 use Rattle.fold.proofs.operands.xor_ordered.Statement.{statement}
 use Rattle.fold.proofs.operands.xor_ordered.Tie as tie
-use Rattle.fold.proofs.operands.xor_ordered.Reads as reads
-use Rattle.fold.proofs.operands.xor_ordered.Lts as lts
 use borrow.Author.Needs.{needs}
-use Rattle.literal.proofs.Literal.of.Reads as of-reads
 
 returns : tie.Need-returns
 returns c = xor-pass _ _ (c .if1 .taken)

@@ -11,11 +11,6 @@ use Rattle.fold.proofs.PassLaws.{from-first, differ-here, differ-later,
 use borrow.Author.Needs.{needs}
 use Rattle.fold.proofs.pass.first_apart.Statement.{statement}
 use Rattle.fold.proofs.pass.first_apart.Tie as tie
-use Rattle.fold.proofs.pass.first_apart.Reads as reads
-use Rattle.fold.proofs.pass.first_apart.Lts as lts
-use Rattle.literal.proofs.Literal.of.Reads as of-reads
-use Rattle.miter.proofs.both.outputs_of.Reads as outputs-of-reads
-use Rattle.table.proofs.rows.representative.Reads as representative-reads
 
 abbrev Inv-loop : tie.InvT-loop
 Inv-loop text pair work outputs k₀ k =

@@ -16,12 +16,6 @@ use Rattle.fold.proofs.PassLaws.{after, after-none, after-all, gate-ent
 use borrow.Author.Needs.{needs}
 use Rattle.fold.proofs.pass.fold.Statement.{statement}
 use Rattle.fold.proofs.pass.fold.Tie as tie
-use Rattle.fold.proofs.pass.fold.Reads as reads
-use Rattle.fold.proofs.pass.fold.Lts as lts
-use Rattle.miter.proofs.both.gate_of.Reads as gate-of-reads
-use Rattle.fold.proofs.entry.entry.Reads as entry-reads
-use Rattle.fold.proofs.pass.set_bases.Reads as set-bases-reads
-use Rattle.table.proofs.buckets.insert.Reads as insert-reads
 
 abbrev Inv-loop : tie.InvT-loop
 Inv-loop text pair work₀ first gates nets k₀ work k =

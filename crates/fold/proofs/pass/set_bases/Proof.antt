@@ -12,12 +12,6 @@ use Rattle.fold.proofs.PassLaws.{bases-none, bases-more}
 use borrow.Author.Needs.{needs}
 use Rattle.fold.proofs.pass.set_bases.Statement.{statement}
 use Rattle.fold.proofs.pass.set_bases.Tie as tie
-use Rattle.fold.proofs.pass.set_bases.Reads as reads
-use Rattle.fold.proofs.pass.set_bases.Lts as lts
-use Rattle.literal.proofs.Literal.positive.Reads as positive-reads
-use Rattle.table.proofs.buckets.empty.Reads as empty-reads
-use Rattle.table.proofs.buckets.insert.Reads as insert-reads
-use Rattle.table.proofs.rows.keyless.Reads as keyless-reads
 
 abbrev Inv-loop : tie.InvT-loop
 Inv-loop work₀ nets inputs k₀ work k = (k ≤ 1 + inputs) × (length work ≡ length work₀) × Indexed work nets (model.bases 0 k)

@@ -3,8 +3,6 @@ use borrow.Author.Tests.{lt-ltb, le-ltb}
 use borrow.Author.Needs.{needs}
 use Rattle.frame.proofs.fields.digit_of.Statement.{statement}
 use Rattle.frame.proofs.fields.digit_of.Tie as tie
-use Rattle.frame.proofs.fields.digit_of.Reads as reads
-use Rattle.frame.proofs.fields.digit_of.Lts as lts
 
 add-result : tie.Need-add-result
 add-result c = search needs

@@ -6,9 +6,6 @@ use Rattle.frame.proofs.WriteLaws.{operands-widths}
 use borrow.Author.Needs.{needs}
 use Rattle.frame.proofs.fields.fields_of.Statement.{statement}
 use Rattle.frame.proofs.fields.fields_of.Tie as tie
-use Rattle.frame.proofs.fields.fields_of.Reads as reads
-use Rattle.frame.proofs.fields.fields_of.Lts as lts
-use Rattle.frame.proofs.kinds.byte_of.Reads as byte-of-reads
 
 enum-known-frame : tie.Need-enum-known-frame
 enum-known-frame c = search needs

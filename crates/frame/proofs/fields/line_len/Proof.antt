@@ -6,8 +6,6 @@ use Rattle.frame.proofs.WriteLaws.{operands-widths, line-by-widths}
 use borrow.Author.Needs.{needs}
 use Rattle.frame.proofs.fields.line_len.Statement.{statement}
 use Rattle.frame.proofs.fields.line_len.Tie as tie
-use Rattle.frame.proofs.fields.line_len.Reads as reads
-use Rattle.frame.proofs.fields.line_len.Lts as lts
 
 enum-told : tie.Need-enum-told
 enum-told c = search needs

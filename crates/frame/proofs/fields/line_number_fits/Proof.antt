@@ -5,8 +5,6 @@ use Rattle.frame.proofs.WriteLaws.{no-line}
 use borrow.Author.Needs.{needs}
 use Rattle.frame.proofs.fields.line_number_fits.Statement.{statement}
 use Rattle.frame.proofs.fields.line_number_fits.Tie as tie
-use Rattle.frame.proofs.fields.line_number_fits.Reads as reads
-use Rattle.frame.proofs.fields.line_number_fits.Lts as lts
 
 enum-known-frame : tie.Need-enum-known-frame
 enum-known-frame c = search needs

@@ -9,9 +9,6 @@ use Rattle.model.specs.Frames.{hex}
 use Rattle.frame.proofs.WriteLaws.{store-digit}
 use Rattle.frame.proofs.fields.put_hex.Statement.{statement}
 use Rattle.frame.proofs.fields.put_hex.Tie as tie
-use Rattle.frame.proofs.fields.put_hex.Reads as reads
-use Rattle.frame.proofs.fields.put_hex.Lts as lts
-use Rattle.frame.proofs.fields.digit_of.Reads as digit-of-reads
 
 abbrev Inv-loop : tie.InvT-loop
 Inv-loop out₀ at n width left₀ rest₀ out left rest =

@@ -10,10 +10,6 @@ use Rattle.model.specs.Frames.{total, hex, oneByte}
 use Rattle.frame.proofs.WriteLaws.{Storing, field-room, field-stored, fields-stored, width-count, value-count, line-long, line-stored}
 use Rattle.frame.proofs.fields.write_line.Statement.{statement}
 use Rattle.frame.proofs.fields.write_line.Tie as tie
-use Rattle.frame.proofs.fields.write_line.Reads as reads
-use Rattle.frame.proofs.fields.write_line.Lts as lts
-use Rattle.frame.proofs.fields.fields_of.Reads as fields-of-reads
-use Rattle.frame.proofs.fields.put_hex.Reads as put-hex-reads
 
 abbrev Inv-loop : tie.InvT-loop
 Inv-loop out₀ at w kind count p₀ i₀ out p i =

@@ -5,9 +5,6 @@ use Rattle.frame.proofs.KindLaws.{unframed-short, kind-says}
 use borrow.Author.Needs.{needs}
 use Rattle.frame.proofs.kinds.kind_at.Statement.{statement}
 use Rattle.frame.proofs.kinds.kind_at.Tie as tie
-use Rattle.frame.proofs.kinds.kind_at.Reads as reads
-use Rattle.frame.proofs.kinds.kind_at.Lts as lts
-use Rattle.frame.proofs.kinds.spelt_kind.Reads as spelt-kind-reads
 
 sub-if1 : tie.Need-sub-if1
 sub-if1 c = search needs

@@ -4,10 +4,6 @@ use Rattle.frame.proofs.KindLaws.{named-byte}
 use borrow.Author.Needs.{needs}
 use Rattle.frame.proofs.kinds.kind_of.Statement.{statement}
 use Rattle.frame.proofs.kinds.kind_of.Tie as tie
-use Rattle.frame.proofs.kinds.kind_of.Reads as reads
-use Rattle.frame.proofs.kinds.kind_of.Lts as lts
-use Rattle.frame.proofs.fields.digit_of.Reads as digit-of-reads
-use Rattle.frame.proofs.kinds.spelt_kind.Reads as spelt-kind-reads
 
 digit-of-requires : tie.Need-digit-of-requires
 digit-of-requires c κs = search needs

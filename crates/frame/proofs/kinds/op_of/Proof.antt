@@ -3,8 +3,6 @@ use mathlib.Core.Path.{refl}
 use native.Mathlib.Omega.{arith}
 use Rattle.frame.proofs.kinds.op_of.Statement.{statement}
 use Rattle.frame.proofs.kinds.op_of.Tie as tie
-use Rattle.frame.proofs.kinds.op_of.Reads as reads
-use Rattle.frame.proofs.kinds.op_of.Lts as lts
 
 returns : tie.Need-returns
 returns c = record { and = λ _. refl; xor = λ e. absurd (omega arith) }

@@ -9,9 +9,6 @@ use Rattle.frame.proofs.KindLaws.{named, named-op, not-spelt}
 use borrow.Author.Needs.{needs}
 use Rattle.frame.proofs.kinds.spelt_kind.Statement.{statement}
 use Rattle.frame.proofs.kinds.spelt_kind.Tie as tie
-use Rattle.frame.proofs.kinds.spelt_kind.Reads as reads
-use Rattle.frame.proofs.kinds.spelt_kind.Lts as lts
-use Rattle.frame.proofs.kinds.op_of.Reads as op-of-reads
 
 mul-spelt : tie.Need-mul-spelt
 mul-spelt c = search needs

@@ -7,8 +7,6 @@ use borrow.Author.Tests.{eqb-true, eqb-false}
 use borrow.Author.Needs.{needs}
 use Rattle.frame.proofs.read.feeds.Statement.{statement}
 use Rattle.frame.proofs.read.feeds.Tie as tie
-use Rattle.frame.proofs.read.feeds.Reads as reads
-use Rattle.frame.proofs.read.feeds.Lts as lts
 
 sub-if1 : tie.Need-sub-if1
 sub-if1 c = search needs

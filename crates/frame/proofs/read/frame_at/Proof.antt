@@ -2,14 +2,6 @@
 use borrow.Author.Needs.{needs}
 use Rattle.frame.proofs.read.frame_at.Statement.{statement}
 use Rattle.frame.proofs.read.frame_at.Tie as tie
-use Rattle.frame.proofs.read.frame_at.Reads as reads
-use Rattle.frame.proofs.read.frame_at.Lts as lts
-use Rattle.frame.proofs.kinds.kind_at.Reads as kind-at-reads
-use Rattle.frame.proofs.read.header_at.Reads as header-at-reads
-use Rattle.frame.proofs.read.operands_frame.Reads as operands-frame-reads
-use Rattle.frame.proofs.read.output_frame.Reads as output-frame-reads
-use Rattle.frame.proofs.read.report_at.Reads as report-at-reads
-use Rattle.frame.proofs.read.resolve_frame.Reads as resolve-frame-reads
 
 kind-at-requires : tie.Need-kind-at-requires
 kind-at-requires c κs = search needs

@@ -12,11 +12,6 @@ use Rattle.frame.specs.declared.Frame.the-variants.{Header}
 use borrow.Author.Needs.{needs}
 use Rattle.frame.proofs.read.header_at.Statement.{statement}
 use Rattle.frame.proofs.read.header_at.Tie as tie
-use Rattle.frame.proofs.read.header_at.Reads as reads
-use Rattle.frame.proofs.read.header_at.Lts as lts
-use Rattle.digits.proofs.read.byte_at.Reads as byte-at-reads
-use Rattle.digits.proofs.read.word_at.Reads as word-at-reads
-use Rattle.frame.proofs.read.feeds.Reads as feeds-reads
 
 feeds-requires : tie.Need-feeds-requires
 feeds-requires c κs = search needs

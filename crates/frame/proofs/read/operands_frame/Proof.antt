@@ -7,9 +7,6 @@ use Rattle.frame.proofs.WriteLaws.{operands-widths}
 use borrow.Author.Needs.{needs}
 use Rattle.frame.proofs.read.operands_frame.Statement.{statement}
 use Rattle.frame.proofs.read.operands_frame.Tie as tie
-use Rattle.frame.proofs.read.operands_frame.Reads as reads
-use Rattle.frame.proofs.read.operands_frame.Lts as lts
-use Rattle.frame.proofs.read.operands_at.Reads as operands-at-reads
 
 operands-at-requires : tie.Need-operands-at-requires
 operands-at-requires c κs = search needs

@@ -8,9 +8,6 @@ use Rattle.frame.proofs.FieldLaws.{looked}
 use borrow.Author.Needs.{needs}
 use Rattle.frame.proofs.read.output_frame.Statement.{statement}
 use Rattle.frame.proofs.read.output_frame.Tie as tie
-use Rattle.frame.proofs.read.output_frame.Reads as reads
-use Rattle.frame.proofs.read.output_frame.Lts as lts
-use Rattle.frame.proofs.read.output_at.Reads as output-at-reads
 
 output-at-requires : tie.Need-output-at-requires
 output-at-requires c κs = search needs

@@ -13,12 +13,6 @@ use Rattle.frame.specs.declared.Frame.the-variants.{Report}
 use borrow.Author.Needs.{needs}
 use Rattle.frame.proofs.read.report_at.Statement.{statement}
 use Rattle.frame.proofs.read.report_at.Tie as tie
-use Rattle.frame.proofs.read.report_at.Reads as reads
-use Rattle.frame.proofs.read.report_at.Lts as lts
-use Rattle.digits.proofs.read.byte_at.Reads as byte-at-reads
-use Rattle.digits.proofs.read.triple_at.Reads as triple-at-reads
-use Rattle.digits.proofs.read.word_at.Reads as word-at-reads
-use Rattle.frame.proofs.read.feeds.Reads as feeds-reads
 
 -- the line has its bytes, where LF stands at its end
 room-of : (c : tie.Else1) → let start = c .before .before .before in start .args .at + 19 ≤ length (now (start .args .text))

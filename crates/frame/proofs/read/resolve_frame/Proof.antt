@@ -8,9 +8,6 @@ use Rattle.frame.proofs.FieldLaws.{looked}
 use borrow.Author.Needs.{needs}
 use Rattle.frame.proofs.read.resolve_frame.Statement.{statement}
 use Rattle.frame.proofs.read.resolve_frame.Tie as tie
-use Rattle.frame.proofs.read.resolve_frame.Reads as reads
-use Rattle.frame.proofs.read.resolve_frame.Lts as lts
-use Rattle.frame.proofs.read.resolve_at.Reads as resolve-at-reads
 
 resolve-at-requires : tie.Need-resolve-at-requires
 resolve-at-requires c κs = search needs

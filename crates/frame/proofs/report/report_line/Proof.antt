@@ -4,9 +4,6 @@ use Rattle.frame.proofs.WriteLaws.{report-written}
 use borrow.Author.Needs.{needs}
 use Rattle.frame.proofs.report.report_line.Statement.{statement}
 use Rattle.frame.proofs.report.report_line.Tie as tie
-use Rattle.frame.proofs.report.report_line.Reads as reads
-use Rattle.frame.proofs.report.report_line.Lts as lts
-use Rattle.frame.proofs.write_frame.Reads as write-frame-reads
 
 slice-aggregate-write-frame : tie.Need-slice-aggregate-write-frame
 slice-aggregate-write-frame c = search needs

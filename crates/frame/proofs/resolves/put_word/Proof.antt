@@ -6,9 +6,6 @@ use Rattle.frame.proofs.PutLaws.{word-stored}
 use borrow.Author.Needs.{needs}
 use Rattle.frame.proofs.resolves.put_word.Statement.{statement}
 use Rattle.frame.proofs.resolves.put_word.Tie as tie
-use Rattle.frame.proofs.resolves.put_word.Reads as reads
-use Rattle.frame.proofs.resolves.put_word.Lts as lts
-use Rattle.digits.proofs.packed.spelling.Reads as spelling-reads
 
 mul-values : tie.Need-mul-values
 mul-values c = search needs

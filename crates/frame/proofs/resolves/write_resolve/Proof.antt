@@ -8,9 +8,6 @@ use Rattle.frame.proofs.PutLaws.{resolve-stored}
 use borrow.Author.Needs.{needs}
 use Rattle.frame.proofs.resolves.write_resolve.Statement.{statement}
 use Rattle.frame.proofs.resolves.write_resolve.Tie as tie
-use Rattle.frame.proofs.resolves.write_resolve.Reads as reads
-use Rattle.frame.proofs.resolves.write_resolve.Lts as lts
-use Rattle.frame.proofs.resolves.put_word.Reads as put-word-reads
 
 -- out is as long behind each number as at the entry
 first-long : (first : tie.After-put-word) → length (first .put-word .last .0) ≡ length (now (first .before .before .before .args .out))

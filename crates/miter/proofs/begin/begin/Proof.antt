@@ -10,13 +10,6 @@ use Rattle.miter.proofs.BeginLaws.{none-held, first-held, variables-are
 use borrow.Author.Needs.{needs}
 use Rattle.miter.proofs.begin.begin.Statement.{statement}
 use Rattle.miter.proofs.begin.begin.Tie as tie
-use Rattle.miter.proofs.begin.begin.Reads as reads
-use Rattle.miter.proofs.begin.begin.Lts as lts
-use Rattle.literal.proofs.Literal.negative.Reads as negative-reads
-use Rattle.miter.proofs.begin.close.Reads as close-reads
-use Rattle.miter.proofs.begin.put_unit.Reads as put-unit-reads
-use Rattle.miter.proofs.begin.write_variables.Reads as write-variables-reads
-use Rattle.netlist.proofs.Pair.variables.Reads as variables-reads
 
 returns : tie.Need-returns
 returns c w = no-space w (c .before .before .before .args .room) (omega arith)

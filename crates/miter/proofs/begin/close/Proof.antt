@@ -10,10 +10,6 @@ use Rattle.miter.proofs.BeginLaws.{begin-short, begins, begin-tracks}
 use borrow.Author.Needs.{needs}
 use Rattle.miter.proofs.begin.close.Statement.{statement}
 use Rattle.miter.proofs.begin.close.Tie as tie
-use Rattle.miter.proofs.begin.close.Reads as reads
-use Rattle.miter.proofs.begin.close.Lts as lts
-use Rattle.miter.proofs.begin.put_unit.Reads as put-unit-reads
-use Rattle.literal.proofs.Literal.positive.Reads as positive-reads
 
 returns : tie.Need-returns
 returns c a b held n v = begin-short (c .before .before .args .room) a b (c .before .before .args .count) n (omega arith)

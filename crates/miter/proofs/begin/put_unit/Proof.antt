@@ -5,10 +5,6 @@ use Rattle.miter.proofs.BeginLaws.{unit-clause, unit-proper, unit-held}
 use borrow.Author.Needs.{needs}
 use Rattle.miter.proofs.begin.put_unit.Statement.{statement}
 use Rattle.miter.proofs.begin.put_unit.Tie as tie
-use Rattle.miter.proofs.begin.put_unit.Reads as reads
-use Rattle.miter.proofs.begin.put_unit.Lts as lts
-use Rattle.clause.proofs.Clause.of_one.Reads as of-one-reads
-use Rattle.clause.proofs.store.save.Reads as save-reads
 
 of-one-requires : tie.Need-of-one-requires
 of-one-requires c κs = search needs

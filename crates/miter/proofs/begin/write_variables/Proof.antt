@@ -10,13 +10,6 @@ use Rattle.steps.proofs.StepLaws.{few}
 use Rattle.miter.proofs.BeginLaws.{none-yet, variable-held, variable-short}
 use Rattle.miter.proofs.begin.write_variables.Statement.{statement}
 use Rattle.miter.proofs.begin.write_variables.Tie as tie
-use Rattle.miter.proofs.begin.write_variables.Reads as reads
-use Rattle.miter.proofs.begin.write_variables.Lts as lts
-use Rattle.miter.proofs.variables.variable.Reads as variable-reads
-use Rattle.netlist.proofs.Pair.first_gate.Reads as first-gate-reads
-use Rattle.netlist.proofs.Pair.variables.Reads as variables-reads
-use Rattle.steps.proofs.clause_count.Reads as clause-count-reads
-use Rattle.steps.proofs.push_gate.Reads as push-gate-reads
 
 abbrev Inv-loop : tie.InvT-loop
 Inv-loop text pair store₀ room end count₀ v₀ store count v =

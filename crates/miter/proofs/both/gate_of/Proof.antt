@@ -9,10 +9,6 @@ use Rattle.miter.proofs.MiterLaws.{few-left, right-literals, moved, lef
 use borrow.Author.Needs.{needs}
 use Rattle.miter.proofs.both.gate_of.Statement.{statement}
 use Rattle.miter.proofs.both.gate_of.Tie as tie
-use Rattle.miter.proofs.both.gate_of.Reads as reads
-use Rattle.miter.proofs.both.gate_of.Lts as lts
-use Rattle.miter.proofs.both.shift.Reads as shift-reads
-use Rattle.listing.proofs.gate_at.Reads as gate-at-reads
 
 gate-at-requires : tie.Need-gate-at-requires
 gate-at-requires c κs = search needs

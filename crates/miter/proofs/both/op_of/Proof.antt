@@ -9,9 +9,6 @@ use Rattle.miter.proofs.MiterLaws.{left-of, right-gate-of}
 use borrow.Author.Needs.{needs}
 use Rattle.miter.proofs.both.op_of.Statement.{statement}
 use Rattle.miter.proofs.both.op_of.Tie as tie
-use Rattle.miter.proofs.both.op_of.Reads as reads
-use Rattle.miter.proofs.both.op_of.Lts as lts
-use Rattle.listing.proofs.op_at.Reads as op-at-reads
 
 op-at-requires : tie.Need-op-at-requires
 op-at-requires c κs = search needs

@@ -9,10 +9,6 @@ use Rattle.miter.proofs.MiterLaws.{few-left, z-gate-of}
 use borrow.Author.Needs.{needs}
 use Rattle.miter.proofs.both.outputs_of.Statement.{statement}
 use Rattle.miter.proofs.both.outputs_of.Tie as tie
-use Rattle.miter.proofs.both.outputs_of.Reads as reads
-use Rattle.miter.proofs.both.outputs_of.Lts as lts
-use Rattle.miter.proofs.both.shift.Reads as shift-reads
-use Rattle.listing.proofs.output_at.Reads as output-at-reads
 
 output-at-requires : tie.Need-output-at-requires
 output-at-requires c κs = search needs

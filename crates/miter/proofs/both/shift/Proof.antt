@@ -4,10 +4,6 @@ use Rattle.miter.proofs.MiterLaws.{shift-input, shift-gate}
 use borrow.Author.Needs.{needs}
 use Rattle.miter.proofs.both.shift.Statement.{statement}
 use Rattle.miter.proofs.both.shift.Tie as tie
-use Rattle.miter.proofs.both.shift.Reads as reads
-use Rattle.miter.proofs.both.shift.Lts as lts
-use Rattle.literal.proofs.Literal.of.Reads as of-reads
-use Rattle.literal.proofs.Literal.variable.Reads as variable-reads
 
 of-requires : tie.Need-of-requires
 of-requires c κs = search needs

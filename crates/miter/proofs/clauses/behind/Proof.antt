@@ -4,9 +4,6 @@ use Rattle.miter.proofs.ClauseLaws.{count-of, few-each}
 use borrow.Author.Needs.{needs}
 use Rattle.miter.proofs.clauses.behind.Statement.{statement}
 use Rattle.miter.proofs.clauses.behind.Tie as tie
-use Rattle.miter.proofs.clauses.behind.Reads as reads
-use Rattle.miter.proofs.clauses.behind.Lts as lts
-use Rattle.steps.proofs.clause_count.Reads as clause-count-reads
 
 clause-count-requires : tie.Need-clause-count-requires
 clause-count-requires c κs = search needs

@@ -12,10 +12,6 @@ use Rattle.miter.proofs.ClauseLaws.{few-each, from-first, behind-one, b
 use borrow.Author.Needs.{needs}
 use Rattle.miter.proofs.clauses.first_z_clause.Statement.{statement}
 use Rattle.miter.proofs.clauses.first_z_clause.Tie as tie
-use Rattle.miter.proofs.clauses.first_z_clause.Reads as reads
-use Rattle.miter.proofs.clauses.first_z_clause.Lts as lts
-use Rattle.miter.proofs.both.op_of.Reads as op-of-reads
-use Rattle.miter.proofs.clauses.behind.Reads as behind-reads
 
 abbrev Inv-loop : tie.InvT-loop
 Inv-loop text pair gates next₀ i₀ next i =

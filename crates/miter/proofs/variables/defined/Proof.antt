@@ -3,10 +3,6 @@ use Rattle.miter.proofs.MiterLaws.{gate-defines}
 use borrow.Author.Needs.{needs}
 use Rattle.miter.proofs.variables.defined.Statement.{statement}
 use Rattle.miter.proofs.variables.defined.Tie as tie
-use Rattle.miter.proofs.variables.defined.Reads as reads
-use Rattle.miter.proofs.variables.defined.Lts as lts
-use Rattle.literal.proofs.Literal.of.Reads as of-reads
-use Rattle.literal.proofs.Literal.positive.Reads as positive-reads
 
 cast-positive : tie.Need-cast-positive
 cast-positive c = search needs

@@ -5,15 +5,6 @@ use Rattle.miter.proofs.MiterLaws.{gate-variable, z-variable, w-variabl
 use borrow.Author.Needs.{needs}
 use Rattle.miter.proofs.variables.variable.Statement.{statement}
 use Rattle.miter.proofs.variables.variable.Tie as tie
-use Rattle.miter.proofs.variables.variable.Reads as reads
-use Rattle.miter.proofs.variables.variable.Lts as lts
-use Rattle.miter.proofs.both.gate_of.Reads as gate-of-reads
-use Rattle.miter.proofs.both.outputs_of.Reads as outputs-of-reads
-use Rattle.miter.proofs.variables.defined.Reads as defined-reads
-use Rattle.miter.proofs.variables.w_gate.Reads as w-gate-reads
-use Rattle.netlist.proofs.Pair.first_gate.Reads as first-gate-reads
-use Rattle.netlist.proofs.Pair.first_w.Reads as first-w-reads
-use Rattle.netlist.proofs.Pair.first_z.Reads as first-z-reads
 
 first-z-requires : tie.Need-first-z-requires
 first-z-requires c κs = search needs

@@ -4,10 +4,6 @@ use Rattle.miter.proofs.MiterLaws.{w-low, w-defines}
 use borrow.Author.Needs.{needs}
 use Rattle.miter.proofs.variables.w_gate.Statement.{statement}
 use Rattle.miter.proofs.variables.w_gate.Tie as tie
-use Rattle.miter.proofs.variables.w_gate.Reads as reads
-use Rattle.miter.proofs.variables.w_gate.Lts as lts
-use Rattle.literal.proofs.Literal.negative.Reads as negative-reads
-use Rattle.miter.proofs.variables.w_variable.Reads as w-variable-reads
 
 add-negative : tie.Need-add-negative
 add-negative c = search needs

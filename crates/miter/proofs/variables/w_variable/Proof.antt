@@ -3,8 +3,6 @@ use Rattle.miter.proofs.MiterLaws.{w-behind}
 use borrow.Author.Needs.{needs}
 use Rattle.miter.proofs.variables.w_variable.Statement.{statement}
 use Rattle.miter.proofs.variables.w_variable.Tie as tie
-use Rattle.miter.proofs.variables.w_variable.Reads as reads
-use Rattle.miter.proofs.variables.w_variable.Lts as lts
 
 returns : tie.Need-returns
 returns c = search needs

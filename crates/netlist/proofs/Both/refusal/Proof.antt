@@ -2,8 +2,6 @@
 use borrow.Author.Needs.{needs}
 use Rattle.netlist.proofs.Both.refusal.Statement.{statement}
 use Rattle.netlist.proofs.Both.refusal.Tie as tie
-use Rattle.netlist.proofs.Both.refusal.Reads as reads
-use Rattle.netlist.proofs.Both.refusal.Lts as lts
 
 enum-told : tie.Need-enum-told
 enum-told c = search needs

@@ -2,8 +2,6 @@
 use borrow.Author.Needs.{needs}
 use Rattle.netlist.proofs.One.refusal.Statement.{statement}
 use Rattle.netlist.proofs.One.refusal.Tie as tie
-use Rattle.netlist.proofs.One.refusal.Reads as reads
-use Rattle.netlist.proofs.One.refusal.Lts as lts
 
 enum-told : tie.Need-enum-told
 enum-told c = search needs

@@ -6,10 +6,6 @@ use Rattle.netlist.proofs.LineLaws.{not-gate, gate-other, gate-over}
 use borrow.Author.Needs.{needs}
 use Rattle.netlist.proofs.lines.gate_refusal.Statement.{statement}
 use Rattle.netlist.proofs.lines.gate_refusal.Tie as tie
-use Rattle.netlist.proofs.lines.gate_refusal.Reads as reads
-use Rattle.netlist.proofs.lines.gate_refusal.Lts as lts
-use Rattle.frame.proofs.read_line.Reads as read-line-reads
-use Rattle.netlist.proofs.lines.missing.Reads as missing-reads
 
 read-line-requires : tie.Need-read-line-requires
 read-line-requires c κs = search needs

@@ -2,8 +2,6 @@
 use borrow.Author.Needs.{needs}
 use Rattle.netlist.proofs.lines.missing.Statement.{statement}
 use Rattle.netlist.proofs.lines.missing.Tie as tie
-use Rattle.netlist.proofs.lines.missing.Reads as reads
-use Rattle.netlist.proofs.lines.missing.Lts as lts
 
 enum-known-got : tie.Need-enum-known-got
 enum-known-got c = search needs

@@ -4,10 +4,6 @@ use Rattle.netlist.proofs.ListLaws.{gates-refuse, body-says}
 use borrow.Author.Needs.{needs}
 use Rattle.netlist.proofs.lines.read_body.Statement.{statement}
 use Rattle.netlist.proofs.lines.read_body.Tie as tie
-use Rattle.netlist.proofs.lines.read_body.Reads as reads
-use Rattle.netlist.proofs.lines.read_body.Lts as lts
-use Rattle.netlist.proofs.lines.read_gates.Reads as read-gates-reads
-use Rattle.netlist.proofs.lines.read_outputs.Reads as read-outputs-reads
 
 add-first : tie.Need-add-first
 add-first c = search needs

@@ -5,10 +5,6 @@ use Rattle.netlist.proofs.LineLaws.{end-none, end-other}
 use borrow.Author.Needs.{needs}
 use Rattle.netlist.proofs.lines.read_end.Statement.{statement}
 use Rattle.netlist.proofs.lines.read_end.Tie as tie
-use Rattle.netlist.proofs.lines.read_end.Reads as reads
-use Rattle.netlist.proofs.lines.read_end.Lts as lts
-use Rattle.frame.proofs.read_line.Reads as read-line-reads
-use Rattle.netlist.proofs.lines.missing.Reads as missing-reads
 
 read-line-requires : tie.Need-read-line-requires
 read-line-requires c κs = search needs

@@ -6,10 +6,6 @@ use Rattle.netlist.proofs.PlainLaws.{all-gates}
 use borrow.Author.Needs.{needs}
 use Rattle.netlist.proofs.lines.read_gates.Statement.{statement}
 use Rattle.netlist.proofs.lines.read_gates.Tie as tie
-use Rattle.netlist.proofs.lines.read_gates.Reads as reads
-use Rattle.netlist.proofs.lines.read_gates.Lts as lts
-use Rattle.netlist.proofs.lines.gate_refusal.Reads as gate-refusal-reads
-use Rattle.netlist.proofs.plain.plain_gates.Reads as plain-gates-reads
 
 plain-gates-requires : tie.Need-plain-gates-requires
 plain-gates-requires c κs = search needs

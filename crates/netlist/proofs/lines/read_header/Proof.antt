@@ -15,10 +15,6 @@ use Rattle.netlist.proofs.LineLaws.{not-header, header-other, header-ra
 use borrow.Author.Needs.{needs}
 use Rattle.netlist.proofs.lines.read_header.Statement.{statement}
 use Rattle.netlist.proofs.lines.read_header.Tie as tie
-use Rattle.netlist.proofs.lines.read_header.Reads as reads
-use Rattle.netlist.proofs.lines.read_header.Lts as lts
-use Rattle.frame.proofs.read_line.Reads as read-line-reads
-use Rattle.netlist.proofs.lines.missing.Reads as missing-reads
 
 -- the function's entry, from the header's frame by way of the call `read_line`
 abbrev start-of : tie.After-frame → tie.Start

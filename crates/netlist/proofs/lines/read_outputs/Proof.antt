@@ -6,10 +6,6 @@ use Rattle.netlist.proofs.PlainLaws.{all-outputs}
 use borrow.Author.Needs.{needs}
 use Rattle.netlist.proofs.lines.read_outputs.Statement.{statement}
 use Rattle.netlist.proofs.lines.read_outputs.Tie as tie
-use Rattle.netlist.proofs.lines.read_outputs.Reads as reads
-use Rattle.netlist.proofs.lines.read_outputs.Lts as lts
-use Rattle.netlist.proofs.lines.output_refusal.Reads as output-refusal-reads
-use Rattle.netlist.proofs.plain.plain_outputs.Reads as plain-outputs-reads
 
 plain-outputs-requires : tie.Need-plain-outputs-requires
 plain-outputs-requires c κs = search needs

@@ -6,10 +6,6 @@ use Rattle.model.specs.Nets.{netOf}
 use borrow.Author.Needs.{needs}
 use Rattle.netlist.proofs.plain.is_below.Statement.{statement}
 use Rattle.netlist.proofs.plain.is_below.Tie as tie
-use Rattle.netlist.proofs.plain.is_below.Reads as reads
-use Rattle.netlist.proofs.plain.is_below.Lts as lts
-use Rattle.literal.proofs.Literal.of.Reads as of-reads
-use Rattle.literal.proofs.Literal.variable.Reads as variable-reads
 
 of-requires : tie.Need-of-requires
 of-requires c κs = search needs

@@ -7,11 +7,6 @@ use Rattle.netlist.proofs.PlainLaws.{not-gate, refused-gate, plain-gate
 use borrow.Author.Needs.{needs}
 use Rattle.netlist.proofs.plain.plain_gate.Statement.{statement}
 use Rattle.netlist.proofs.plain.plain_gate.Tie as tie
-use Rattle.netlist.proofs.plain.plain_gate.Reads as reads
-use Rattle.netlist.proofs.plain.plain_gate.Lts as lts
-use Rattle.frame.proofs.kinds.kind_at.Reads as kind-at-reads
-use Rattle.frame.proofs.read.operands_at.Reads as operands-at-reads
-use Rattle.netlist.proofs.plain.is_below.Reads as is-below-reads
 
 kind-at-requires : tie.Need-kind-at-requires
 kind-at-requires c κs = search needs

@@ -9,9 +9,6 @@ use Rattle.netlist.specs.Plain.{Row}
 use Rattle.netlist.proofs.PlainLaws.{row-of-none, row-place, row-more}
 use Rattle.netlist.proofs.plain.plain_gates.Statement.{statement}
 use Rattle.netlist.proofs.plain.plain_gates.Tie as tie
-use Rattle.netlist.proofs.plain.plain_gates.Reads as reads
-use Rattle.netlist.proofs.plain.plain_gates.Lts as lts
-use Rattle.netlist.proofs.plain.plain_gate.Reads as plain-gate-reads
 
 abbrev Inv-loop : tie.InvT-loop
 Inv-loop text at first count i₀ i = (first ≤ 1 + mostInputs) × (count ≤ mostGates) × Row text at first count i

@@ -6,11 +6,6 @@ use Rattle.netlist.proofs.PlainLaws.{not-output, refused-output, plain-
 use borrow.Author.Needs.{needs}
 use Rattle.netlist.proofs.plain.plain_output.Statement.{statement}
 use Rattle.netlist.proofs.plain.plain_output.Tie as tie
-use Rattle.netlist.proofs.plain.plain_output.Reads as reads
-use Rattle.netlist.proofs.plain.plain_output.Lts as lts
-use Rattle.frame.proofs.kinds.kind_at.Reads as kind-at-reads
-use Rattle.frame.proofs.read.output_at.Reads as output-at-reads
-use Rattle.netlist.proofs.plain.is_below.Reads as is-below-reads
 
 kind-at-requires : tie.Need-kind-at-requires
 kind-at-requires c κs = search needs

@@ -9,9 +9,6 @@ use Rattle.netlist.specs.Plain.{OutputRow}
 use Rattle.netlist.proofs.PlainLaws.{outputs-of-none, outputs-place, outputs-one-more}
 use Rattle.netlist.proofs.plain.plain_outputs.Statement.{statement}
 use Rattle.netlist.proofs.plain.plain_outputs.Tie as tie
-use Rattle.netlist.proofs.plain.plain_outputs.Reads as reads
-use Rattle.netlist.proofs.plain.plain_outputs.Lts as lts
-use Rattle.netlist.proofs.plain.plain_output.Reads as plain-output-reads
 
 abbrev Inv-loop : tie.InvT-loop
 Inv-loop text at nets count i₀ i = (count ≤ mostOutputs) × OutputRow text at nets count i

@@ -3,8 +3,6 @@ use native.Mathlib.Omega.{arith}
 use borrow.Author.Needs.{needs}
 use Rattle.table.proofs.buckets.at_most.Statement.{statement}
 use Rattle.table.proofs.buckets.at_most.Tie as tie
-use Rattle.table.proofs.buckets.at_most.Reads as reads
-use Rattle.table.proofs.buckets.at_most.Lts as lts
 
 mul-n : tie.Need-mul-n
 mul-n c = search needs

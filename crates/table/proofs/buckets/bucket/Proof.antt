@@ -5,8 +5,6 @@ use Rattle.table.proofs.BucketLaws.{scaled, scaled-low, no-key, some-ke
 use borrow.Author.Needs.{needs}
 use Rattle.table.proofs.buckets.bucket.Statement.{statement}
 use Rattle.table.proofs.buckets.bucket.Tie as tie
-use Rattle.table.proofs.buckets.bucket.Reads as reads
-use Rattle.table.proofs.buckets.bucket.Lts as lts
 
 returns : tie.Need-returns
 returns c = (no-key _ _ _ _ (c .if1 .taken), omega arith)

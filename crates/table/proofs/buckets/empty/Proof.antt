@@ -6,9 +6,6 @@ use Rattle.table.proofs.BucketLaws.{index-none}
 use borrow.Author.Needs.{needs}
 use Rattle.table.proofs.buckets.empty.Statement.{statement}
 use Rattle.table.proofs.buckets.empty.Tie as tie
-use Rattle.table.proofs.buckets.empty.Reads as reads
-use Rattle.table.proofs.buckets.empty.Lts as lts
-use Rattle.clearing.proofs.clear_numbers.Reads as clear-numbers-reads
 
 add-clear-numbers : tie.Need-add-clear-numbers
 add-clear-numbers c = search needs

@@ -14,11 +14,6 @@ use Rattle.table.proofs.BucketLaws.{Walk, walk-begins, walk-on}
 use borrow.Author.Needs.{needs}
 use Rattle.table.proofs.buckets.find.Statement.{statement}
 use Rattle.table.proofs.buckets.find.Tie as tie
-use Rattle.table.proofs.buckets.find.Reads as reads
-use Rattle.table.proofs.buckets.find.Lts as lts
-use Rattle.table.proofs.buckets.at_most.Reads as at-most-reads
-use Rattle.table.proofs.buckets.bucket.Reads as bucket-reads
-use Rattle.table.proofs.rows.fits.Reads as fits-reads
 
 abbrev Inv-loop : tie.InvT-loop
 Inv-loop work nets v kind a b head next₀ found₀ next found =

@@ -8,10 +8,6 @@ use Rattle.table.proofs.BucketLaws.{inserted}
 use borrow.Author.Needs.{needs}
 use Rattle.table.proofs.buckets.insert.Statement.{statement}
 use Rattle.table.proofs.buckets.insert.Tie as tie
-use Rattle.table.proofs.buckets.insert.Reads as reads
-use Rattle.table.proofs.buckets.insert.Lts as lts
-use Rattle.table.proofs.buckets.bucket.Reads as bucket-reads
-use Rattle.table.proofs.rows.enter.Reads as enter-reads
 
 add-head : tie.Need-add-head
 add-head c = search needs

@@ -11,8 +11,6 @@ use Rattle.table.proofs.LinkLaws.{four-stored, kept, rows-stay}
 use borrow.Author.Needs.{needs}
 use Rattle.table.proofs.links.keep.Statement.{statement}
 use Rattle.table.proofs.links.keep.Tie as tie
-use Rattle.table.proofs.links.keep.Reads as reads
-use Rattle.table.proofs.links.keep.Lts as lts
 
 mul-at : tie.Need-mul-at
 mul-at c = search needs

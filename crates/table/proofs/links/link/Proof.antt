@@ -2,11 +2,6 @@
 use borrow.Author.Needs.{needs}
 use Rattle.table.proofs.links.link.Statement.{statement}
 use Rattle.table.proofs.links.link.Tie as tie
-use Rattle.table.proofs.links.link.Reads as reads
-use Rattle.table.proofs.links.link.Lts as lts
-use Rattle.literal.proofs.Literal.sign.Reads as sign-reads
-use Rattle.literal.proofs.Literal.variable.Reads as variable-reads
-use Rattle.table.proofs.links.number_at.Reads as number-at-reads
 
 variable-requires : tie.Need-variable-requires
 variable-requires c κs = search needs

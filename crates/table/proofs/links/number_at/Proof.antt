@@ -2,8 +2,6 @@
 use borrow.Author.Needs.{needs}
 use Rattle.table.proofs.links.number_at.Statement.{statement}
 use Rattle.table.proofs.links.number_at.Tie as tie
-use Rattle.table.proofs.links.number_at.Reads as reads
-use Rattle.table.proofs.links.number_at.Lts as lts
 
 mul-at : tie.Need-mul-at
 mul-at c = search needs

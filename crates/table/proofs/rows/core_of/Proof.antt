@@ -4,9 +4,6 @@ use Rattle.table.proofs.RowLaws.{core-at}
 use borrow.Author.Needs.{needs}
 use Rattle.table.proofs.rows.core_of.Statement.{statement}
 use Rattle.table.proofs.rows.core_of.Tie as tie
-use Rattle.table.proofs.rows.core_of.Reads as reads
-use Rattle.table.proofs.rows.core_of.Lts as lts
-use Rattle.literal.proofs.Literal.of.Reads as of-reads
 
 mul-of : tie.Need-mul-of
 mul-of c = search needs

@@ -8,8 +8,6 @@ use Rattle.table.proofs.RowLaws.{row-stored}
 use borrow.Author.Needs.{needs}
 use Rattle.table.proofs.rows.enter.Statement.{statement}
 use Rattle.table.proofs.rows.enter.Tie as tie
-use Rattle.table.proofs.rows.enter.Reads as reads
-use Rattle.table.proofs.rows.enter.Lts as lts
 
 mul-at : tie.Need-mul-at
 mul-at c = search needs

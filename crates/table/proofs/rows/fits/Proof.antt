@@ -3,8 +3,6 @@ use Rattle.table.proofs.RowLaws.{other-first, other-second, same-key}
 use borrow.Author.Needs.{needs}
 use Rattle.table.proofs.rows.fits.Statement.{statement}
 use Rattle.table.proofs.rows.fits.Tie as tie
-use Rattle.table.proofs.rows.fits.Reads as reads
-use Rattle.table.proofs.rows.fits.Lts as lts
 
 mul-at : tie.Need-mul-at
 mul-at c = search needs

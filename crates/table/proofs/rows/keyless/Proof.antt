@@ -2,9 +2,6 @@
 use borrow.Author.Needs.{needs}
 use Rattle.table.proofs.rows.keyless.Statement.{statement}
 use Rattle.table.proofs.rows.keyless.Tie as tie
-use Rattle.table.proofs.rows.keyless.Reads as reads
-use Rattle.table.proofs.rows.keyless.Lts as lts
-use Rattle.literal.proofs.Literal.of.Reads as of-reads
 
 of-requires : tie.Need-of-requires
 of-requires c κs = search needs

@@ -5,12 +5,6 @@ use Rattle.table.proofs.RowLaws.{even-rep, odd-rep}
 use borrow.Author.Needs.{needs}
 use Rattle.table.proofs.rows.representative.Statement.{statement}
 use Rattle.table.proofs.rows.representative.Tie as tie
-use Rattle.table.proofs.rows.representative.Reads as reads
-use Rattle.table.proofs.rows.representative.Lts as lts
-use Rattle.literal.proofs.Literal.complement.Reads as complement-reads
-use Rattle.literal.proofs.Literal.of.Reads as of-reads
-use Rattle.literal.proofs.Literal.sign.Reads as sign-reads
-use Rattle.literal.proofs.Literal.variable.Reads as variable-reads
 
 variable-requires : tie.Need-variable-requires
 variable-requires c κs = search needs
