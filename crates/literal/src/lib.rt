@@ -41,14 +41,20 @@ impl Literal {
         Literal { code: 2 * v + 1 }
     }
 
+    // The literal, complemented where the sign is 1; by one operation, since nobody can foresee signs.
+    pub fn signed(self, sign: u16) -> Literal
+        requires { ⌜ sign ≤ 1 ⌝ }
+        ensures { λ r. ⌜ (sign ≡ 0 → r .code ≡ self .code) × (sign ≡ 1 → r .code ≡ model.neg (self .code)) ⌝ }
+    {
+        Literal {
+            code: self.code ^ sign,
+        }
+    }
+
     pub fn complement(self) -> Literal
         ensures { λ r. ⌜ r .code ≡ model.neg (self .code) ⌝ }
     {
-        let code = self.code;
-        if code % 2 == 0 {
-            return Literal { code: code + 1 };
-        }
-        Literal { code: code - 1 }
+        self.signed(1)
     }
 
     // The literal of the same variable without its sign.

@@ -7,9 +7,10 @@ use native.Mathlib.Omega.{arith}
 use lib.ListN.{length, getD, set, length-append, List·getD-append}
 use lib.Seq.{sets, length-sets, getD-at}
 use lib.Dec.{eqb, ltb}
-use borrow.Author.Tests.{ltb-true, ltb-false, ne-eqb, eq-eqb}
-use Rattle.model.specs.Nets.{netOf}
+use borrow.Author.Tests.{ltb-true, ltb-false, eqb-true, eqb-false, ne-eqb, eq-eqb}
+use Rattle.model.specs.Nets.{netOf, odd}
 use Rattle.model.specs.Clauses.{neg}
+use Rattle.fold_laws.specs.Signs.{signed}
 use Rattle.fold_laws.specs.Table as model
 use Rattle.table.specs.Rows.{rowWidth, rowNumbers, row, HoldsTable}
 use Rattle.table.proofs.PlaceLaws.{stays-before, stored-at}
@@ -99,10 +100,11 @@ module _ (k : Bool) (a b : ℕ) (t : List model.Entry) (v u : ℕ) where
 -- ---- representatives
 
 module _ {work : List ℕ} {t : List model.Entry} (h : HoldsTable work t) (l : ℕ) (n : netOf l < length t) where
-  pub even-rep : l % 2 ≡ 0 → getD work (rowWidth * netOf l) 0 ≡ model.repOf t l
+  -- the row's number with the literal's sign
+  pub signed-rep : (sign r : ℕ) → sign ≡ l % 2 → (sign ≡ 0 → r ≡ getD work (rowWidth * netOf l) 0) × (sign ≡ 1 → r ≡ neg (getD work (rowWidth * netOf l) 0)) → r ≡ model.repOf t l
   unfolding model.repOf
-  even-rep e = rw e (rep-at h n)
-
-  pub odd-rep : (l % 2 ≡ 0 → ⊥) → neg (getD work (rowWidth * netOf l) 0) ≡ model.repOf t l
-  unfolding model.repOf
-  odd-rep e = let o : l % 2 ≡ 1 = omega arith in rw o (ap neg (rep-at h n))
+  signed-rep sign r e f = go (odd l) refl
+    where
+      go : (b : Bool) → odd l ≡ b → r ≡ signed b (model.at t (netOf l) .rep)
+      go true o = let one : l % 2 ≡ 1 = eqb-true (l % 2) 1 o in f .1 (e ∙ one) ∙ ap neg (rep-at h n)
+      go false o = let other = eqb-false (l % 2) 1 o in f .0 (omega arith) ∙ rep-at h n

@@ -62,10 +62,7 @@ pub fn representative(work: &[u16], l: Literal) -> Literal
         return Literal::of(0);
     }
     let rep = Literal::of(work[at]);
-    if l.sign() == 0 {
-        return rep;
-    }
-    rep.complement()
+    rep.signed(l.sign())
 }
 
 // The literal over net u that is the AND or XOR of its key.

@@ -1,7 +1,7 @@
--- The first number of the net's row, complemented for an odd literal.
+-- The first number of the net's row, with the sign of the literal.
 use mathlib.Core.Path.{_∙_}
 use native.Mathlib.Omega.{arith}
-use Rattle.table.proofs.RowLaws.{even-rep, odd-rep}
+use Rattle.table.proofs.RowLaws.{signed-rep}
 use borrow.Author.Needs.{needs}
 use Rattle.table.proofs.rows.representative.Statement.{statement}
 use Rattle.table.proofs.rows.representative.Tie as tie
@@ -33,19 +33,13 @@ of-requires-2 c κs = search needs
 sign-requires : tie.Need-sign-requires
 sign-requires c κs = search needs
 
+signed-requires : tie.Need-signed-requires
+signed-requires c κs = search needs
+
 returns-2 : tie.Need-returns-2
 returns-2 c t h n =
     let rep = c .before .before in
-    rep .of2 .ensures ∙ rw (rep .before .before .before .variable .ensures) (even-rep h _ n (omega (arith, c .before .sign .ensures)))
-
-complement-requires : tie.Need-complement-requires
-complement-requires c κs = search needs
-
-returns-3 : tie.Need-returns-3
-returns-3 c t h n =
-    let test = c .before in
-    let rep = test .before .before in
-    rw (c .complement .ensures, rep .of2 .ensures, rep .before .before .before .variable .ensures) (odd-rep h _ n (λ e. omega (arith, test .before .sign .ensures)))
+    signed-rep h _ n (c .before .sign .result) _ (c .before .sign .ensures) (rw (rep .of2 .ensures, rep .before .before .before .variable .ensures) at (c .signed .ensures))
 
 pub representative-spec : {M : Type 1} → statement M
 representative-spec =
@@ -60,6 +54,5 @@ representative-spec =
     shared-slice-read-of
     of-requires-2
     sign-requires
-    returns-2
-    complement-requires
-    returns-3)
+    signed-requires
+    returns-2)
