@@ -15,6 +15,8 @@ use Rattle.frame.specs.declared.Op.the-variants.{And, Xor}
 use Rattle.frame.specs.Frames.{opOf}
 use Rattle.literal.specs.declared.Literal.{Literal}
 use Rattle.clause.specs.Sets.{Proper}
+use Rattle.steps.specs.declared.Added.{Added}
+use Rattle.steps.specs.declared.Added.the-variants.{Clause as Kept, Refused as NotKept}
 use Rattle.steps.specs.declared.Progress.{Progress}
 use Rattle.steps.specs.declared.Stepped.{Stepped}
 use Rattle.steps.specs.declared.Stepped.the-variants.{Done, Refused}
@@ -73,3 +75,8 @@ pub record Within (store : List ℕ) (p : Progress) (room : ℕ) : Type 0 where
 abbrev pub Says : ℕ → Answer State → List ℕ → Stepped → Type 0
 Says room a store (Done q) = (s : State) × (a ≡ ok s) × Tracks store q s × Within store q room
 Says room a store (Refused r) = a ≡ refused (r .number) (r .line)
+
+-- the answer to a resolve at this line, by what it comes to
+abbrev pub steppedOf : Progress → ℕ → Added → Stepped
+steppedOf p line (Kept empty) = Done (record { empty = empty; next = p .next; clauses = p .clauses + 1; steps = p .steps + 1 })
+steppedOf p line (NotKept number) = Refused (record { number = number; line = line })

@@ -24,7 +24,7 @@ ghost use Rattle.model.specs.Steps as steps;
 ghost use Rattle.model.specs.Steps.{State};
 ghost use Rattle.model.specs.Limits.{clauseWidth};
 ghost use Rattle.clause.specs.Sets.{Holds, Rising, literalsOf, resolveOf, Answers};
-ghost use Rattle.steps.specs.Progress.{clausesOf, extension, Held, Room, Tracks, Within, Says};
+ghost use Rattle.steps.specs.Progress.{clausesOf, extension, Held, Room, Tracks, Within, Says, steppedOf};
 
 // How far a proof is: clauses so far, the next unused variable, steps done, and whether the last was a resolve with the empty clause.
 pub struct Progress {
@@ -144,31 +144,24 @@ pub fn extend_step(
     })
 }
 
+// What a resolve comes to: whether the clause that it adds is empty, or the number of its refusal. It has few bytes, and what follows from them is
+// worked out by the caller: a proof's lines are waited for less.
+enum Added {
+    Clause(bool),
+    Refused(u8),
+}
+
 // A resolvent becomes the next clause.
-fn push_resolvent(
-    store: &mut [u16],
-    p: Progress,
-    room: usize,
-    line: usize,
-    resolvent: Clause,
-) -> Stepped
+fn push_resolvent(store: &mut [u16], p: Progress, room: usize, resolvent: Clause) -> Added
     requires { ⌜ Within (now store) p room × Holds resolvent (literalsOf resolvent) × Rising (literalsOf resolvent) ⌝ }
-    ensures { λ r. ⌜ ((s : State) → Tracks (now (store .entry)) p s → Says room (steps.added room line s (literalsOf resolvent ∷ []) (s .next) (model.isEmpty (literalsOf resolvent))) (now (store .exit)) r) ⌝ }
+    ensures { λ r. ⌜ ((s : State) (line : ℕ) → Tracks (now (store .entry)) p s → Says room (steps.added room line s (literalsOf resolvent ∷ []) (s .next) (model.isEmpty (literalsOf resolvent))) (now (store .exit)) (steppedOf p line r)) ⌝ }
 {
     let clauses = p.clauses;
     if clauses == room {
-        return Stepped::Refused(Refusal {
-            number: Refusal::STORE,
-            line,
-        });
+        return Added::Refused(Refusal::STORE);
     }
     save_resolvent(store, clauses, resolvent);
-    Stepped::Done(Progress {
-        clauses: clauses + 1,
-        next: p.next,
-        steps: p.steps + 1,
-        empty: resolvent.len == 0,
-    })
+    Added::Clause(resolvent.len == 0)
 }
 
 // Two clauses of the store, whose numbers are from 0, resolved on v.
@@ -185,6 +178,27 @@ fn resolve_at(store: &[u16], a: usize, b: usize, v: u16) -> Resolved
     )
 }
 
+// The resolvent on v of two clauses, whose numbers are from 1, added to the store.
+fn add_resolvent(store: &mut [u16], p: Progress, room: usize, a: usize, b: usize, v: u16) -> Added
+    requires { ⌜ Within (now store) p room ⌝ }
+    ensures { λ r. ⌜ ((s : State) (line : ℕ) → Tracks (now (store .entry)) p s → Says room (steps.step room line s (steps.Step.resolve a b v)) (now (store .exit)) (steppedOf p line r)) ⌝ }
+{
+    let clauses = p.clauses;
+    if !is_clause(clauses, a) {
+        return Added::Refused(Refusal::CLAUSE);
+    }
+    if !is_clause(clauses, b) {
+        return Added::Refused(Refusal::CLAUSE);
+    }
+    let resolved = resolve_at(store, a - 1, b - 1, v);
+    let outcome = resolved.outcome;
+    match outcome {
+        Outcome::Missing => Added::Refused(Refusal::PIVOT),
+        Outcome::TooLong => Added::Refused(Refusal::LENGTH),
+        Outcome::Joined => push_resolvent(store, p, room, resolved.clause),
+    }
+}
+
 // Resolve on v: the first clause holds v, the second ¬v. The numbers of clauses are from 1.
 pub fn resolve_step(
     store: &mut [u16],
@@ -198,30 +212,14 @@ pub fn resolve_step(
     requires { ⌜ Within (now store) p room ⌝ }
     ensures { λ r. ⌜ ((s : State) → Tracks (now (store .entry)) p s → Says room (steps.step room line s (steps.Step.resolve a b v)) (now (store .exit)) r) ⌝ }
 {
-    let clauses = p.clauses;
-    if !is_clause(clauses, a) {
-        return Stepped::Refused(Refusal {
-            number: Refusal::CLAUSE,
-            line,
-        });
-    }
-    if !is_clause(clauses, b) {
-        return Stepped::Refused(Refusal {
-            number: Refusal::CLAUSE,
-            line,
-        });
-    }
-    let resolved = resolve_at(store, a - 1, b - 1, v);
-    let outcome = resolved.outcome;
-    match outcome {
-        Outcome::Missing => Stepped::Refused(Refusal {
-            number: Refusal::PIVOT,
-            line,
+    let added = add_resolvent(store, p, room, a, b, v);
+    match added {
+        Added::Clause(empty) => Stepped::Done(Progress {
+            empty,
+            next: p.next,
+            clauses: p.clauses + 1,
+            steps: p.steps + 1,
         }),
-        Outcome::TooLong => Stepped::Refused(Refusal {
-            number: Refusal::LENGTH,
-            line,
-        }),
-        Outcome::Joined => push_resolvent(store, p, room, line, resolved.clause),
+        Added::Refused(number) => Stepped::Refused(Refusal { number, line }),
     }
 }

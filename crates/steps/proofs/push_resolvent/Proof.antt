@@ -13,37 +13,32 @@ use Rattle.steps.proofs.push_resolvent.Statement.{statement}
 use Rattle.steps.proofs.push_resolvent.Tie as tie
 
 returns : tie.Need-returns
-returns c s t =
+returns c s line t =
     let a = c .before .before .args in
-    full (a .room) (a .line) s (literalsOf (a .resolvent)) (omega (arith, t .clauses))
+    full (a .room) line s (literalsOf (a .resolvent)) (omega (arith, t .clauses))
 
 save-resolvent-requires : tie.Need-save-resolvent-requires
 save-resolvent-requires c κs =
     let w = c .before .before .before .pre in
     (omega (arith, w .0 .numbers-for-all, w .0 .clauses), w .1, w .2)
 
-add-t12 : tie.Need-add-t12
-add-t12 c = search needs
-
-add-t13 : tie.Need-add-t13
-add-t13 c = search needs
-
 same-length : tie.Need-same-length
 same-length c = search needs
 
 returns-2 : tie.Need-returns-2
-returns-2 c s t =
-    let start = c .before .before .before .before .before .before .before .before in
+returns-2 c s line t =
+    let saved = c .before .before .before in
+    let start = saved .before .before .before .before in
     let a = start .args in
     let w = start .pre in
     let r = literalsOf (a .resolvent) in
-    let g = c .before .before .before .before .save-resolvent in
+    let g = saved .save-resolvent in
     let h : Proper r = record { rising = w .2; width = omega (arith, w .1 .size, w .1 .room) } in
     let q = joined-tracks r (a .resolvent .len) (clauseWidth * a .p .clauses) t h (w .1 .size) refl (omega (arith, w .0 .numbers-for-all, w .0 .clauses)) in
     let q′ : Tracks (g .last .0) (record { clauses = a .p .clauses + 1; next = a .p .next; steps = a .p .steps + 1; empty = eqb (a .resolvent .len) 0 }) (joined r s) =
     rw (g .ensures) q in (
       joined r s,
-      joins (a .room) (a .line) s r (omega (arith, w .0 .clauses, t .clauses)),
+      joins (a .room) line s r (omega (arith, w .0 .clauses, t .clauses)),
       q′,
       record {
         state = joined r s;
@@ -57,4 +52,4 @@ returns-2 c s t =
     )
 
 pub push-resolvent-spec : {M : Type 1} → statement M
-push-resolvent-spec = tie.close (tie.spec returns save-resolvent-requires add-t12 add-t13 same-length returns-2)
+push-resolvent-spec = tie.close (tie.spec returns save-resolvent-requires same-length returns-2)
