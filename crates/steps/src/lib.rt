@@ -144,8 +144,8 @@ pub fn extend_step(
     })
 }
 
-// What a resolve comes to: whether the clause that it adds is empty, or the number of its refusal. It has few bytes, and what follows from them is
-// worked out by the caller: a proof's lines are waited for less.
+// What a resolve comes to: whether the clause that it adds is empty, or the number of its refusal. These are two bytes; the progress that follows
+// from them is worked out where the loop over a proof's lines has it, and is not copied back.
 enum Added {
     Clause(bool),
     Refused(u8),
