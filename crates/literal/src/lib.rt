@@ -43,7 +43,6 @@ impl Literal {
 
     // The literal, complemented where the sign is 1; by one operation, since nobody can foresee signs.
     pub fn signed(self, sign: u16) -> Literal
-        requires { ⌜ sign ≤ 1 ⌝ }
         ensures { λ r. ⌜ (sign ≡ 0 → r .code ≡ self .code) × (sign ≡ 1 → r .code ≡ model.neg (self .code)) ⌝ }
     {
         Literal {
