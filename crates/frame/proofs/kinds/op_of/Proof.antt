@@ -8,7 +8,7 @@ returns : tie.Need-returns
 returns c = record { and = λ _. refl; xor = λ e. absurd (omega arith) }
 
 returns-2 : tie.Need-returns-2
-returns-2 c = record { and = λ e. absurd (c .if1 .left e); xor = λ _. refl }
+returns-2 c = record { and = λ e. absurd (omega arith); xor = λ _. refl }
 
 pub op-of-spec : {M : Type 1} → statement M
 op-of-spec = tie.close (tie.spec returns returns-2)
