@@ -41,7 +41,7 @@ impl Literal {
         Literal { code: 2 * v + 1 }
     }
 
-    // The literal, complemented where the sign is 1; by one operation, since nobody can foresee signs.
+    // The literal, complemented where the sign is 1. By one operation, since signs follow no pattern and a test of them is mispredicted.
     pub fn signed(self, sign: u16) -> Literal
         ensures { λ r. ⌜ (sign ≡ 0 → r .code ≡ self .code) × (sign ≡ 1 → r .code ≡ model.neg (self .code)) ⌝ }
     {
