@@ -2,22 +2,11 @@
 mod report; // a stream's report
 
 use libc::STDERR_FILENO;
-use libc::STDOUT_FILENO;
 use report::report;
 use streams::Stream;
+use streams::print;
 use streams::read_stream;
 use streams::room;
-
-// The one line, and a message where it could not be written.
-fn print(line: &[u8]) {
-    if io::write_all(STDOUT_FILENO, line) {
-        return;
-    }
-    io::write_all(
-        STDERR_FILENO,
-        b"cec_check: standard output was not written to its end\n",
-    );
-}
 
 fn main() {
     let mut stream = room();
@@ -29,5 +18,8 @@ fn main() {
         return;
     };
     let line = report(&stream[..n]);
-    print(&line);
+    print(
+        &line,
+        b"cec_check: standard output was not written to its end\n",
+    );
 }

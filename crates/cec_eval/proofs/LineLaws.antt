@@ -1,12 +1,12 @@
--- The line that is printed: the two ways to an answer, the places of refusals, and each answer's line.
+-- The line that is printed: the two ways to an answer, the places of refusals, and a word's line.
 use Prim.Native.Nat.{ℕ, _≤_, _<_}
-use mathlib.Core.Path.{_≡_, refl, sym, ap, _∙_}
+use mathlib.Core.Path.{_≡_, refl, sym, _∙_}
 use mathlib.Core.Bool.{Bool, true, false}
-use mathlib.Core.List.{List, [], _∷_, append-nil}
+use mathlib.Core.List.{List, [], _∷_}
 use native.Mathlib.Omega.{arith}
 use lib.Dec.{leb}
-use lib.ListN.{length, length-append, length-replicate, set}
-use lib.Seq.{sets, length-sets}
+use lib.ListN.{length, length-append, set}
+use lib.Seq.{sets}
 use borrow.Author.Tests.{leb-true, lt-leb, le-leb}
 use Rattle.model.specs.Limits.{highestLine, streamBytes}
 use Rattle.model.specs.Answers.{Answer, guard, zeros}
@@ -18,9 +18,10 @@ use Rattle.laws.specs.Answers.{refused-not-ok}
 use Rattle.laws.specs.Digits.{length-hex}
 use Rattle.laws.specs.Places.{Placed, evaluate-placed}
 use Rattle.laws.specs.Places.Placed.{place}
-use Rattle.frame.proofs.WriteLaws.{sets-append, fill, report-length}
-use Rattle.cec_eval.specs.declared.answer.Printed.{Printed}
-use Rattle.cec_eval.specs.Program.{wordDigits, workingBytes, evaluated, wordLine, reportLine, Prints}
+use Rattle.frame.proofs.WriteLaws.{sets-append, fill}
+use Rattle.printed.specs.Printing.{Prints}
+use Rattle.printed.proofs.PrintLaws.{filled-line}
+use Rattle.cec_eval.specs.Program.{wordDigits, workingBytes, evaluated, wordLine}
 
 -- ---- the two ways to an answer
 
@@ -49,7 +50,7 @@ module _ (stream : List ℕ) (pattern : ℕ) where
           few (evaluate stream pattern workingBytes) (evaluate-placed stream pattern workingBytes) (omega (arith, leb-true (length stream) streamBytes t)) number line (rw t at e)
       by-length false t = few {Good = λ w. Unit {0}} {most = 0} (refused 1 0) (place 1 0 (omega arith) (omega arith)) (omega arith) number line (rw t at e)
 
--- ---- the line of each answer
+-- ---- a word's line
 
 pub word-printed : (word : ℕ) (out : List ℕ) → out ≡ sets (zeros 19) 0 (hex wordDigits word) → Prints (record { line = set out wordDigits lineFeed; len = 17 }) (wordLine word)
 word-printed word out e =
@@ -57,14 +58,4 @@ word-printed word out e =
     let bytes : length (wordLine word) ≡ 17 = rw length-append (omega (arith, digits)) in
     let behind = sets-append (zeros 19) 0 (hex wordDigits word) (lineFeed ∷ []) in
     let stored : set out wordDigits lineFeed ≡ sets (zeros 19) 0 (wordLine word) = rw (behind, digits, e) in
-    let long : length (set out wordDigits lineFeed) ≡ 19 = rw (stored, length-sets) (length-replicate {A = ℕ} 19 0) in
-    record { line = rw long (stored ∙ fill 19 (wordLine word) (omega arith)); len = sym bytes }
-
-pub report-printed : (number line : ℕ) (out : List ℕ) → out ≡ reportLine number line → Prints (record { line = out; len = 19 }) (reportLine number line)
-report-printed number line out e =
-    let l = report-length number line 0 0 in
-    record { line = rw (e, l, append-nil); len = sym l }
-
--- what is printed lies within the line
-pub printed-within : {p : Printed} {bytes : List ℕ} → Prints p bytes → p .len ≤ length (p .line)
-printed-within {p} {bytes} h = let e = ap length (h .line) ∙ length-append bytes _ in omega (arith, e, h .len)
+    record { line = filled-line 19 (wordLine word) _ (omega arith) (stored ∙ fill 19 (wordLine word) (omega arith)); len = sym bytes }

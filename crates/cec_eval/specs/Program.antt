@@ -1,12 +1,11 @@
 -- What the evaluating program takes for a pattern, and what it prints.
 use Prim.Native.Nat.{ℕ, _+_}
-use mathlib.Core.Path.{_≡_}
 use mathlib.Core.Bool.{Bool, true, _&&_, cond}
 use mathlib.Core.List.{List, [], _∷_, _++_, map}
 use lib.Dec.{eqb, leb}
 use lib.ListN.{length}
 use Rattle.model.specs.Limits.{mostInputs, mostGates, streamBytes}
-use Rattle.model.specs.Answers.{Answer, guard, filled}
+use Rattle.model.specs.Answers.{Answer, guard}
 use Rattle.model.specs.Answers.Answer.{ok, refused}
 use Rattle.model.specs.Lines.{isDigit, digitValue, lineFeed}
 use Rattle.model.specs.Frames.{number, hex, lineOf}
@@ -14,7 +13,6 @@ use Rattle.model.specs.Evaluator.{evaluate}
 use Rattle.frame.specs.Frames.{report}
 use Rattle.cec_eval.specs.declared.pattern.Pattern.{Pattern}
 use Rattle.cec_eval.specs.declared.pattern.Pattern.the-variants.{Bits, Wrong}
-use Rattle.cec_eval.specs.declared.answer.Printed.{Printed}
 
 -- ---- the argument
 
@@ -43,17 +41,9 @@ evaluated stream pattern = guard (leb (length stream) streamBytes) 1 0 (evaluate
 abbrev pub wordLine : ℕ → List ℕ
 wordLine word = hex wordDigits word ++ (lineFeed ∷ [])
 
-abbrev pub reportLine : ℕ → ℕ → List ℕ
-reportLine number line = lineOf (report number line 0 0)
-
 abbrev pub lineFor : Answer ℕ → List ℕ
 lineFor (ok word) = wordLine word
-lineFor (refused number line) = reportLine number line
+lineFor (refused number line) = lineOf (report number line 0 0)
 
 unfoldable pub program : List ℕ → ℕ → List ℕ
 program stream pattern = lineFor (evaluated stream pattern)
-
--- the bytes of a line, and how many they are
-pub record Prints (p : Printed) (bytes : List ℕ) : Type 0 where
-  pub line : p .line ≡ filled (length (p .line)) bytes
-  pub len : p .len ≡ length bytes

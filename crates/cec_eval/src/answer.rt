@@ -3,26 +3,20 @@ use evaluator::Evaluated;
 use evaluator::evaluate;
 use frame::fields::put_hex;
 use frame::kinds::REPORT_BYTES;
-use frame::report::report_line;
+use printed::Printed;
+use printed::refusal_line;
 use refusal::Refusal;
 use streams::STREAM_BYTES;
 ghost use mathlib.Core.Path.{_≡_};
-ghost use Prim.Native.Nat.{_≤_};
-ghost use Rattle.model.specs.Limits.{highestLine};
 ghost use Rattle.evaluator.specs.Replies.{evaluatedOf};
-ghost use Rattle.cec_eval.specs.Program.{evaluated, program, Prints, wordLine, reportLine};
+ghost use Rattle.printed.specs.Printing.{Prints};
+ghost use Rattle.cec_eval.specs.Program.{evaluated, program, wordLine};
 
 // The digits of a word of 64 bits.
 const WORD_DIGITS: usize = 16;
 
 // Working bytes for the largest list: 1 + 64 + 1,024.
 const WORKING_BYTES: usize = 1089;
-
-// A line to print: its bytes from the start, zeros behind, and how many they are.
-pub struct Printed {
-    pub line: [u8; REPORT_BYTES],
-    pub len: usize,
-}
 
 // The word of a stream's list on a pattern, or 1 for a stream that is too long.
 fn evaluate_stream(stream: &[u8], pattern: u64) -> Evaluated
@@ -48,18 +42,6 @@ fn word_line(word: u64) -> Printed
     Printed {
         line,
         len: WORD_DIGITS + 1,
-    }
-}
-
-// A refusal's report frame.
-fn refusal_line(refusal: Refusal) -> Printed
-    requires { ⌜ refusal .line ≤ highestLine ⌝ }
-    ensures { λ r. ⌜ Prints r (reportLine (refusal .number) (refusal .line)) ⌝ }
-{
-    let line = report_line(refusal.number, refusal.line, 0, 0);
-    Printed {
-        line,
-        len: REPORT_BYTES,
     }
 }
 

@@ -5,11 +5,11 @@ mod pattern; // the argument's pattern
 
 use answer::answer;
 use libc::STDERR_FILENO;
-use libc::STDOUT_FILENO;
 use pattern::PATTERN_DIGITS;
 use pattern::Pattern;
 use pattern::pattern_of;
 use streams::Stream;
+use streams::print;
 use streams::read_stream;
 use streams::room;
 
@@ -23,23 +23,15 @@ fn argument() -> Pattern {
     pattern_of(&digits[..n])
 }
 
-// The one line, and a message where it could not be written.
-fn print(line: &[u8]) {
-    if io::write_all(STDOUT_FILENO, line) {
-        return;
-    }
-    io::write_all(
-        STDERR_FILENO,
-        b"cec_eval: standard output was not written to its end\n",
-    );
-}
-
 // Prints the answer to a stream.
 fn run(stream: &[u8], pattern: u64) {
     let answered = answer(stream, pattern);
     let line = answered.line;
     let len = answered.len;
-    print(&line[..len]);
+    print(
+        &line[..len],
+        b"cec_eval: standard output was not written to its end\n",
+    );
 }
 
 fn main() {

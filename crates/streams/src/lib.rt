@@ -1,5 +1,7 @@
-// Standard input, read to its end, and how long a program's stream may be.
+// Standard input, read to its end, how long a program's stream may be, and its answer on standard output.
+use libc::STDERR_FILENO;
 use libc::STDIN_FILENO;
+use libc::STDOUT_FILENO;
 ghost use mathlib.Core.Path.{_≡_};
 ghost use lib.ListN.{length};
 ghost use Rattle.streams.specs.Streams.{Within};
@@ -39,4 +41,12 @@ pub fn read_stream(buf: &mut [u8]) -> Stream
         done += more;
     }
     Stream::Read(done)
+}
+
+// Writes a program's answer, and where that fails its message on standard error.
+pub fn print(answer: &[u8], unwritten: &[u8]) {
+    if io::write_all(STDOUT_FILENO, answer) {
+        return;
+    }
+    io::write_all(STDERR_FILENO, unwritten);
 }

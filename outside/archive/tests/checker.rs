@@ -2,6 +2,7 @@
 //! Each failure prints the seed, the case and its bytes.
 
 mod common;
+mod judge;
 
 use cec_archive::{check, evaluate};
 use cec_reference::read_lists;
@@ -9,12 +10,12 @@ use cec_reference::sample::PROOF;
 use common::extensions::{all_variables, refute_smallest, EXTENSIONS};
 use common::lists::{List, LARGEST};
 use common::pairs::MOST_INPUTS;
-use common::proof_texts::{self, bench, bench_from, ProofText, P5};
+use common::proof_texts::{self, bench, bench_from, proof_behind, ProofText, P5};
 use common::proofs::{Proof, Step};
 use common::random::{seed, Random};
 use common::sizes::{EIGHT, MOST_CLAUSES};
 use common::tally::{outcomes, Tally};
-use common::{hex, judge, patterns, samples};
+use common::{hex, patterns, samples};
 
 /// How many proofs there are, and how many texts are made of each.
 const PROOFS: u64 = 50_000;
@@ -478,14 +479,7 @@ fn long_proofs_are_checked_alike() {
         (65_522, [0, 0, 65_526, 65_535]),
         (65_523, [14, 65_532, 0, 0]),
     ] {
-        let [first, second, third] = [10, 11, 12].map(|number| number + fill);
-        let text = bench(&[
-            &PROOF[0].repeat(fill),
-            PROOF[0],
-            PROOF[1],
-            &format!("11{first:04X}{second:04X}0001\n"),
-            &format!("110009{:04X}0003\n", third & 0xFFFF),
-        ]);
+        let text = proof_behind(fill);
         assert_eq!(compare_in_most(0, "long", text.as_bytes()), reply);
     }
 }

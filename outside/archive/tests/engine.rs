@@ -3,6 +3,7 @@
 //! Each failure prints the seed, the case and its bytes.
 
 mod common;
+mod judge;
 
 use cec_reference::read_lists;
 use cec_reference::sample::LISTS;
@@ -13,7 +14,7 @@ use common::random::{seed, Random};
 use common::rewrites::{self, Pair, SHOWN};
 use common::sizes::{self, Lengths, Sizes};
 use common::tally::{outcomes, Tally};
-use common::{hex, judge, patterns, places, samples};
+use common::{hex, patterns, places, samples};
 
 const PAIRS: u64 = 200_000;
 const LIST_CASES: u64 = 60_000;

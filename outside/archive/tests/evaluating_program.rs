@@ -6,6 +6,7 @@ mod common;
 use std::path::{Path, PathBuf};
 
 use cec_reference::{evaluate, Refusal};
+use common::expected::refused;
 use common::lists::{List, LARGEST};
 use common::programs::{self, only_complains, printed, Call, Ended};
 use common::random::{seed, Random};
@@ -33,9 +34,7 @@ fn wanted(text: &[u8], pattern: u64) -> (u64, String) {
     };
     match evaluated {
         Ok(word) => (0, format!("{word:016X}\n")),
-        Err(Refusal { number, line }) => {
-            (number.into(), format!("21{number:02X}{line:06X}00000000\n"))
-        }
+        Err(Refusal { number, line }) => (number.into(), refused(number.into(), line)),
     }
 }
 

@@ -2,12 +2,13 @@
 //! memory. Each failure prints the seed, the case and its bytes.
 
 mod common;
+mod judge;
 
 use cec_archive::evaluate;
 use common::lists::{List, Shape, LARGEST};
 use common::random::{seed, Random};
 use common::tally::Tally;
-use common::{expected, hex, judge, list_texts, places, samples};
+use common::{expected, hex, list_texts, places, samples};
 
 const CASES: u64 = 200_000;
 const SAMPLE_PATTERNS: u64 = 4_000;

@@ -2,11 +2,12 @@
 //! byte of the buffer written to. Each failure prints the seed, the case and its bytes.
 
 mod common;
+mod judge;
 
 use cec_archive::{read_frame, write_frame};
 use common::random::{seed, Random};
 use common::tally::Tally;
-use common::{calls, expected, hex, judge, texts};
+use common::{calls, expected, hex, texts};
 
 const READ_CASES: u64 = 300_000;
 const LONG_CASES: u64 = 64;

@@ -9,6 +9,7 @@ use std::path::{Path, PathBuf};
 use cec_archive::{check, prove};
 use cec_reference::report;
 use cec_reference::sample::{LISTS, PROOF};
+use common::expected::refused;
 use common::list_texts::{self, over_two_inputs};
 use common::lists::LARGEST;
 use common::programs::{self, printed, Ended};
@@ -44,11 +45,6 @@ const ACCEPTED: &str = "evidence: accepted";
 const TOO_LONG: &str = "evidence: 1";
 const LARGE_MITER: &str = "evidence: 8";
 const MANY_CLAUSES: &str = "evidence: 14";
-
-/// The report frame of a refusal.
-fn refused(number: u64, line: u64) -> String {
-    format!("21{number:02X}{line:06X}00000000\n")
-}
 
 /// The archive's reply, and what the program has to print: the stream and the lines that the archive
 /// wrote, or a report.

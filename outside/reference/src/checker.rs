@@ -1,5 +1,5 @@
 //! The checker of proofs. Renders document 01, 'Steps', with the refusals 8 to 15; and the checking
-//! program's report, with 1.
+//! programs' report, with 1.
 //!
 //! The text is read once from the top. Clauses are kept apart from the store, which is written
 //! after acceptance alone, so that a refusal leaves nothing in it.
@@ -14,10 +14,6 @@ use crate::refusal::Refusal;
 
 /// A store "holds as many clauses as there are whole eights, at most 65,535".
 const MOST_CLAUSES: usize = 65_535;
-
-/// The checking program's limits: the bytes of its stream, and the clauses of its store.
-const STREAM_BYTES: usize = 65_536;
-const PROGRAM_CLAUSES: usize = 4_096;
 
 /// The bytes of a report frame with its LF.
 const REPORT_BYTES: usize = 19;
@@ -48,9 +44,38 @@ pub fn check(text: &[u8], store: &mut [u16]) -> Result<Checked, Refusal> {
     })
 }
 
-/// What the checking program prints for the bytes of its standard input: one report frame.
+/// How much a checking program takes. Nothing else tells the programs apart.
+#[derive(Clone, Copy, Debug, PartialEq, Eq)]
+pub struct Limits {
+    /// The bytes of its stream. A longer one is 1.
+    pub bytes: usize,
+    /// The clauses of its store, the miter's included. More are 8 or 14.
+    pub clauses: usize,
+}
+
+impl Limits {
+    /// The paper's program, `cec_check`: 1 is "over 65,536 bytes", and it "uses a store of 4,096
+    /// clauses".
+    pub const USUAL: Self = Self {
+        bytes: 65_536,
+        clauses: 4_096,
+    };
+
+    /// The program for longer proofs, `cec_check_large`. No store holds more clauses.
+    pub const LARGE: Self = Self {
+        bytes: 4_194_304,
+        clauses: MOST_CLAUSES,
+    };
+}
+
+/// What the paper's checking program prints for the bytes of its standard input: one report frame.
 pub fn report(stream: &[u8]) -> Vec<u8> {
-    let frame = match check_stream(stream) {
+    report_within(stream, Limits::USUAL)
+}
+
+/// What the checking program with these limits prints: one report frame.
+pub fn report_within(stream: &[u8], limits: Limits) -> Vec<u8> {
+    let frame = match check_stream(stream, limits) {
         Ok(Checked { steps, clauses }) => Frame::Report {
             refusal: 0,
             line: 0,
@@ -65,21 +90,22 @@ pub fn report(stream: &[u8]) -> Vec<u8> {
         },
     };
     let mut printed = vec![0; REPORT_BYTES];
-    write_frame(&frame, &mut printed).expect("a stream has fewer lines than bytes");
+    // A proof's line is read once those before it have found space for a clause each.
+    write_frame(&frame, &mut printed).expect("far fewer lines are read than a report counts");
     printed
 }
 
-fn check_stream(stream: &[u8]) -> Result<Checked, Refusal> {
-    if stream.len() > STREAM_BYTES {
+fn check_stream(stream: &[u8], limits: Limits) -> Result<Checked, Refusal> {
+    if stream.len() > limits.bytes {
         return Err(Refusal::stream());
     }
-    let mut store = vec![0; Clause::MOST_LITERALS * PROGRAM_CLAUSES];
+    let mut store = vec![0; Clause::MOST_LITERALS * limits.clauses];
     check(stream, &mut store)
 }
 
-/// A count of the report: each step adds a clause, so both are at most the program's clauses.
+/// A count of the report: each step adds a clause, so both are at most the most clauses.
 fn field(count: usize) -> u16 {
-    u16::try_from(count).expect("the program has fewer clauses")
+    u16::try_from(count).expect("no store holds more clauses")
 }
 
 /// Takes all steps, with space for so many clauses. Gives the number of steps and the clauses.

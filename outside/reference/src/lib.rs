@@ -11,9 +11,11 @@
 //! - `evaluator`: the values of a list's nets and outputs on a pattern, with 17;
 //! - `clause`: a set of literals, the resolvent of two, and the clauses of an AND or XOR;
 //! - `miter`: the variables and clauses that a proof starts from;
-//! - `checker`: the steps of a proof, with 8 to 15, and the checking program's report, with 1;
+//! - `checker`: the steps of a proof, with 8 to 15, and the checking programs' report, with 1;
 //! - `engine`: folded forms, and the proof that two lists with the same forms agree, with 16 to 18;
 //! - `sample`: the lists and the proof of the paper's bench samples.
+//!
+//! The program `reference_check` prints the report on its standard input; cargo alone builds it.
 
 #![forbid(unsafe_code)]
 
@@ -29,7 +31,7 @@ mod netlist;
 mod refusal;
 pub mod sample;
 
-pub use checker::{check, report, Checked};
+pub use checker::{check, report, report_within, Checked, Limits};
 pub use clause::{definition, Clause};
 pub use engine::prove;
 pub use evaluator::{evaluate, evaluate_nets, output_word};

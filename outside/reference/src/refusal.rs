@@ -15,7 +15,8 @@ pub struct Refusal {
 }
 
 impl Refusal {
-    /// Place 'whole stream, program only': "over 65,536 bytes; line 0".
+    /// Place 'whole stream, program only': "over 65,536 bytes; line 0", or over a larger program's
+    /// limit.
     pub(crate) fn stream() -> Self {
         Self { number: 1, line: 0 }
     }

@@ -43,6 +43,9 @@ report-requires c κs = search needs
 slice-aggregate-print : tie.Need-slice-aggregate-print
 slice-aggregate-print c = search needs
 
+slice-aggregate-print-2 : tie.Need-slice-aggregate-print-2
+slice-aggregate-print-2 c = search needs
+
 print-requires : tie.Need-print-requires
 print-requires c κs = search needs
 
@@ -65,5 +68,6 @@ main-spec =
     slice-aggregate-report
     report-requires
     slice-aggregate-print
+    slice-aggregate-print-2
     print-requires
     returns-2)

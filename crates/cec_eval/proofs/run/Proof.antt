@@ -1,7 +1,7 @@
 -- The line is no longer than its bytes.
 use mathlib.Core.Path.{sym}
 use lib.Seq.{length-take-le}
-use Rattle.cec_eval.proofs.LineLaws.{printed-within}
+use Rattle.printed.proofs.PrintLaws.{printed-within}
 use borrow.Author.Needs.{needs}
 use Rattle.cec_eval.proofs.run.Statement.{statement}
 use Rattle.cec_eval.proofs.run.Tie as tie
@@ -14,6 +14,9 @@ array-share-prefix-line c = printed-within (c .before .answer .ensures)
 
 slice-aggregate-print : tie.Need-slice-aggregate-print
 slice-aggregate-print c = sym (length-take-le _ _ (printed-within (c .before .before .answer .ensures)))
+
+slice-aggregate-print-2 : tie.Need-slice-aggregate-print-2
+slice-aggregate-print-2 c = search needs
 
 print-requires : tie.Need-print-requires
 print-requires c κs = search needs
@@ -28,5 +31,6 @@ run-spec =
     answer-requires
     array-share-prefix-line
     slice-aggregate-print
+    slice-aggregate-print-2
     print-requires
     returns)

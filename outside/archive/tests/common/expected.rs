@@ -1,4 +1,5 @@
-//! The replies that the header promises, worked out by the reference.
+//! The replies that the header promises, worked out by the reference, and the lines that programs
+//! print.
 
 use cec_reference::{Checked, Frame, Netlist, Refusal};
 
@@ -76,4 +77,9 @@ pub fn proving(text: &[u8], proof_len: usize, work_len: usize) -> [u64; 2] {
         Ok(_) => [0, 0],
         Err(Refusal { number, line }) => [number.into(), line],
     }
+}
+
+/// The line that every program prints after a refusal: a report frame without counts.
+pub fn refused(number: u64, line: u64) -> String {
+    format!("21{number:02X}{line:06X}00000000\n")
 }

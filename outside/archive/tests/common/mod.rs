@@ -1,14 +1,16 @@
-//! What the comparisons share: random numbers, cases made from them, replies by the reference, and
-//! counts of what the cases reached.
+//! What the comparisons share: random numbers, cases made from them, replies by the reference, runs
+//! of programs, and counts of what the cases reached. Nothing in it calls the archive, so that the
+//! reference's own tests have it too.
 
 // Each test uses a part of it.
 #![allow(dead_code)]
 
 pub mod calls;
+pub mod checking;
 pub mod expected;
 pub mod extensions;
 pub mod garbage;
-pub mod judge;
+pub mod large_texts;
 pub mod list_texts;
 pub mod lists;
 pub mod pairs;
@@ -24,6 +26,7 @@ pub mod samples;
 pub mod sizes;
 pub mod tally;
 pub mod texts;
+pub mod trials;
 
 /// Bytes in hexadecimal. Of a long text only both ends; the seed and the case's number give all.
 pub fn hex(bytes: &[u8]) -> String {

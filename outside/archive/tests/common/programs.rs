@@ -184,9 +184,7 @@ pub fn only_complains(program: &str, ended: Ended) {
 #[track_caller]
 pub fn is_unwritten<'words>(call: impl Into<Call<'words>>, text: &[u8]) {
     let call = call.into();
-    let full = OpenOptions::new().write(true).open("/dev/full");
-    let output = full.expect("the system has it").into();
-    only_complains_of_output(call.program, run_to(call, text, output));
+    only_complains_of_output(call.program, run_to(call, text, full()));
 }
 
 /// The program said that not all of its output was written, and nothing else.
@@ -214,6 +212,12 @@ pub fn run_on_file<'words>(call: impl Into<Call<'words>>, file: &Path, bytes: &[
     run_on(call, file.into())
 }
 
+/// Each sort of standard input that cannot be read to its end. One has these bytes before it breaks
+/// off, and one has them in this file, which is only open to write.
+pub fn unreadable(file: &Path, bytes: &[u8]) -> [Stdio; 3] {
+    [folder(), only_written(file, bytes), broken_off(bytes)]
+}
+
 /// Standard input that is a folder.
 pub fn folder() -> Stdio {
     let folder = File::open(env!("CARGO_MANIFEST_DIR"));
@@ -235,4 +239,22 @@ pub fn broken_off(bytes: &[u8]) -> Stdio {
     reader.write_all(b"0").expect("it is written");
     drop(writer);
     OwnedFd::from(reader).into()
+}
+
+/// Standard output that takes nothing, as on a full disk.
+pub fn full() -> Stdio {
+    let full = OpenOptions::new().write(true).open("/dev/full");
+    full.expect("the system has it").into()
+}
+
+/// Standard output that is only open to be read.
+pub fn only_read() -> Stdio {
+    File::open("/dev/null").expect("the system has it").into()
+}
+
+/// Standard output that nobody reads any more.
+pub fn unread_output() -> Stdio {
+    let (writer, reader) = UnixStream::pair().expect("there are sockets");
+    drop(reader);
+    OwnedFd::from(writer).into()
 }

@@ -26,6 +26,26 @@ pub fn bench_from(first: &str) -> String {
     bench(&[first, PROOF[1], PROOF[2], PROOF[3]])
 }
 
+/// The bench sample's proof behind so many lines that repeat its first: 13 clauses and as many more.
+pub fn proof_behind(lines: usize) -> String {
+    let [first, second, third] = [10, 11, 12].map(|number| number + lines);
+    bench(&[
+        &PROOF[0].repeat(lines),
+        PROOF[0],
+        PROOF[1],
+        &format!("11{first:04X}{second:04X}0001\n"),
+        &format!("110009{third:04X}0003\n"),
+    ])
+}
+
+/// Two lists of which the left has these gates: with so many ANDs and XORs the miter has
+/// 6 + 3 × ANDs + 4 × XORs clauses.
+pub fn gates(ands: usize, xors: usize) -> String {
+    let count = ands + xors;
+    let [ands, xors] = ["0200000000\n".repeat(ands), "0300000000\n".repeat(xors)];
+    format!("0100{count:04X}01\n{ands}{xors}040000\n0100000001\n040000\n")
+}
+
 /// A text for the checker.
 pub struct ProofText {
     /// What it is, or what was done to it.
@@ -39,6 +59,20 @@ pub struct ProofText {
     pub expected: Option<[u64; 2]>,
     /// What the steps of a proof without fault show, or a known fault.
     pub shown: Vec<&'static str>,
+}
+
+impl ProofText {
+    /// A text of which nothing is known in advance.
+    pub fn unknown(about: impl Into<String>, text: Vec<u8>) -> Self {
+        Self {
+            about: about.into(),
+            text,
+            miter: None,
+            clauses: 0,
+            expected: None,
+            shown: Vec::new(),
+        }
+    }
 }
 
 /// A way to make a text of a proof, under the name that the tests count. None if the proof lacks
@@ -278,14 +312,7 @@ pub fn behind_any_lists(random: &mut Random) -> ProofText {
             line(random, kind)
         });
         let lines: Vec<Vec<u8>> = lines.collect();
-        return ProofText {
-            about,
-            text: [lists, lines.concat()].concat(),
-            miter: None,
-            clauses: 0,
-            expected: None,
-            shown: Vec::new(),
-        };
+        return ProofText::unknown(about, [lists, lines.concat()].concat());
     };
     for _ in 0..random.below(12) {
         proof.take_random(random);
@@ -315,12 +342,9 @@ fn whole(proof: &Proof) -> ProofText {
 /// The proof's lists with other lines behind.
 fn changed(proof: &Proof, lines: Vec<Vec<u8>>) -> ProofText {
     ProofText {
-        about: String::new(),
-        text: proof.text(&lines),
         miter: Some(proof.miter),
         clauses: proof.clauses.len(),
-        expected: None,
-        shown: Vec::new(),
+        ..ProofText::unknown("", proof.text(&lines))
     }
 }
 

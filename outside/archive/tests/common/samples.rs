@@ -33,9 +33,12 @@ const fn shape(inputs: usize, gates: usize, outputs: usize) -> Shape {
     }
 }
 
+fn folder() -> PathBuf {
+    Path::new(env!("CARGO_MANIFEST_DIR")).join("../../samples")
+}
+
 pub fn file(sample: &str) -> PathBuf {
-    let folder = Path::new(env!("CARGO_MANIFEST_DIR")).join("../../samples");
-    folder.join(sample).with_extension("txt")
+    folder().join(sample).with_extension("txt")
 }
 
 pub fn text(sample: &str) -> Vec<u8> {
@@ -52,4 +55,15 @@ pub fn pairs() -> impl Iterator<Item = (String, Vec<u8>, bool)> {
         let [left, right] = pair.map(|sample| sample != ADDER);
         (pair.join(" and "), pair.map(text).concat(), left == right)
     })
+}
+
+/// The name and the text of every list in the folder.
+pub fn every() -> Vec<(String, Vec<u8>)> {
+    let files = fs::read_dir(folder()).expect("the folder is there");
+    let files = files.map(|file| file.expect("the folder is read").path());
+    let lists = files.filter(|file| file.extension().is_some_and(|end| end == "txt"));
+    let mut lists: Vec<PathBuf> = lists.collect();
+    lists.sort();
+    let names = lists.iter().filter_map(|list| list.file_stem()?.to_str());
+    names.map(|name| (name.into(), text(name))).collect()
 }

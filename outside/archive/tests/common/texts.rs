@@ -50,6 +50,9 @@ pub fn damage(random: &mut Random, text: &mut Vec<u8>) -> &'static str {
     name
 }
 
+/// The most bytes of a long text.
+pub const LONGEST: usize = 100_000;
+
 /// A text of up to 100,000 bytes: many digits with or without an LF, alone or behind a whole line,
 /// sometimes with one other byte among them.
 pub fn long(random: &mut Random) -> Vec<u8> {
@@ -58,7 +61,7 @@ pub fn long(random: &mut Random) -> Vec<u8> {
     if random.one_in(2) {
         text.pop();
     }
-    let length = 1_000 + random.below(99_000);
+    let length = 1_000 + random.below(LONGEST - 1_000);
     while text.len() < length - 1 {
         text.push(random.pick(DIGITS));
     }
@@ -77,6 +80,25 @@ pub fn digits(length: usize, end: &str) -> Vec<u8> {
     let digits = DIGITS.iter().cycle();
     let digits = digits.take(length - end.len()).copied();
     digits.chain(end.bytes()).collect()
+}
+
+/// A stream of this length of each sort that a limit could cut wrongly. Two begin with these lines
+/// of lists; behind them stands this line again and again, or one of digits.
+pub fn of_length(length: usize, lists: &str, line: &str) -> [(&'static str, Vec<u8>); 8] {
+    let behind = length - lists.len();
+    let mut lines = format!("{lists}{}", line.repeat(1 + behind / line.len()));
+    lines.truncate(length);
+    let digits_behind = [lists.as_bytes(), &digits(behind, "\n")].concat();
+    [
+        ("a line of digits", digits(length, "\n")),
+        ("no LF", digits(length, "0")),
+        ("a bad byte at the end", digits(length, "G\n")),
+        ("an empty line at the end", digits(length, "\n\n")),
+        ("no digits", vec![0xFF; length]),
+        ("empty lines", vec![b'\n'; length]),
+        ("a line again and again", lines.into_bytes()),
+        ("lists and a line of digits", digits_behind),
+    ]
 }
 
 /// A line of this kind with so many digits too many, each digit and the LF in its place.

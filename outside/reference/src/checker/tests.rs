@@ -333,18 +333,42 @@ fn variable_16383_is_resolved_on() {
     assert_eq!(clause(last + 1), [2, 3, 4, 0, 0, 0, 0, 0]);
 }
 
+/// The bench sample and digits behind it, so many bytes in all.
+fn digits(count: usize) -> Vec<u8> {
+    let mut text = bench().into_bytes();
+    text.resize(count, b'0');
+    text
+}
+
+/// The bench sample with so many steps more: 13 clauses and as many more.
+fn fill(steps: usize) -> Vec<u8> {
+    let text = format!("{LISTS}{}{}", PROOF[0].repeat(steps), proof_behind(steps));
+    text.into_bytes()
+}
+
 /// 65,536 bytes are read, one more is 1; 4,096 clauses fit.
 #[test]
 fn the_program_has_limits() {
     assert_eq!(report(b""), b"210400000100000000\n");
-    let text = bench();
-    let digits = |count: usize| format!("{text}{}", "0".repeat(count - text.len()));
-    assert_eq!(report(digits(65_536).as_bytes()), b"210200000A00000000\n");
-    assert_eq!(report(digits(65_537).as_bytes()), b"210100000000000000\n");
-    let fill = |steps: usize| format!("{LISTS}{}{}", PROOF[0].repeat(steps), proof_behind(steps));
-    assert_eq!(report(fill(4_083).as_bytes()), b"21000000000FF71000\n");
+    assert_eq!(report(&digits(65_536)), b"210200000A00000000\n");
+    assert_eq!(report(&digits(65_537)), b"210100000000000000\n");
+    assert_eq!(report(&fill(4_083)), b"21000000000FF71000\n");
     // Line 5 + 4,084 + 4 finds no space.
-    assert_eq!(report(fill(4_084).as_bytes()), b"210E000FFD00000000\n");
+    assert_eq!(report(&fill(4_084)), b"210E000FFD00000000\n");
+}
+
+/// 4,194,304 bytes are read, one more is 1; 65,535 clauses fit.
+#[test]
+fn the_large_program_has_limits_of_its_own() {
+    let report = |text: &[u8]| report_within(text, Limits::LARGE);
+    assert_eq!(report(b""), b"210400000100000000\n");
+    assert_eq!(report(&digits(65_537)), b"210200000A00000000\n");
+    assert_eq!(report(&digits(4_194_304)), b"210200000A00000000\n");
+    assert_eq!(report(&digits(4_194_305)), b"210100000000000000\n");
+    assert_eq!(report(&fill(4_084)), b"21000000000FF81001\n");
+    assert_eq!(report(&fill(65_522)), b"2100000000FFF6FFFF\n");
+    // Line 5 + 65,523 + 4 finds no space.
+    assert_eq!(report(&fill(65_523)), b"210E00FFFC00000000\n");
 }
 
 #[test]

@@ -1,9 +1,9 @@
 //! The calls under comparison, and what each is lent.
 
 use super::counts::Counts;
-use crate::common::judge;
 use crate::common::random::Random;
 use crate::common::sizes::{around, Lengths, EIGHT, MOST_CLAUSES};
+use crate::judge;
 
 /// One of the archive's calls.
 #[derive(Clone, Copy, Debug, PartialEq, Eq)]

@@ -1,20 +1,18 @@
--- The verdict has a report, and its line is what the program prints.
-use denote.Ref.{now}
-use Rattle.model.specs.Checker.{judge, program}
-use Rattle.cec_check.proofs.ReportLaws.{judge-fits}
+-- The limits of document 01 in the shared report.
+use Rattle.model.specs.Checker.{program}
 use borrow.Author.Needs.{needs}
 use Rattle.cec_check.proofs.report.report.Statement.{statement}
 use Rattle.cec_check.proofs.report.report.Tie as tie
 
-judge-requires : tie.Need-judge-requires
-judge-requires c κs = search needs
+slice-aggregate-report-within : tie.Need-slice-aggregate-report-within
+slice-aggregate-report-within c = search needs
 
-line-of-requires : tie.Need-line-of-requires
-line-of-requires c κs = judge-fits (now (c .before .before .args .stream)) (c .judge .result) (c .judge .ensures)
+report-within-requires : tie.Need-report-within-requires
+report-within-requires c κs = search needs
 
 returns : tie.Need-returns
 unfolding program
-returns c = c .line-of .ensures (judge (now (c .before .before .before .args .stream))) (c .before .judge .ensures)
+returns c = c .before .report-within .ensures .0
 
 pub report-spec : {M : Type 1} → statement M
-report-spec = tie.close (tie.spec judge-requires line-of-requires returns)
+report-spec = tie.close (tie.spec slice-aggregate-report-within report-within-requires returns)

@@ -1,13 +1,13 @@
--- The program's verdict: what a report has digits for, and the report of each case.
-use Prim.Native.Nat.{ℕ, _*_, _≤_, _<_}
+-- A verdict within limits: what a report has digits for, and the report of each case.
+use Prim.Native.Nat.{ℕ, _≤_, _<_}
 use mathlib.Core.Path.{_≡_, refl, sym, ap}
 use mathlib.Core.Bool.{Bool, true, false}
 use mathlib.Core.List.{List}
 use native.Mathlib.Omega.{arith}
 use lib.Dec.{leb}
 use lib.ListN.{length}
-use borrow.Author.Tests.{leb-true, lt-leb, le-leb}
-use Rattle.model.specs.Limits.{clauseWidth, mostClauses, highestLine, streamBytes, programClauses}
+use borrow.Author.Tests.{leb-true, leb-false, lt-leb, le-leb}
+use Rattle.model.specs.Limits.{mostClauses, highestLine}
 use Rattle.model.specs.Answers.{Answer, guard}
 use Rattle.model.specs.Answers.Answer.{ok, refused}
 use Rattle.model.specs.Steps.{State}
@@ -19,7 +19,7 @@ use Rattle.frame.specs.Frames.{report}
 use Rattle.checker.specs.declared.Checked.{Checked}
 use Rattle.checker.specs.declared.Checked.the-variants.{Accepted, Refused}
 use Rattle.checker.specs.Verdicts.{Counted, checkedOf, countedOf}
-use Rattle.cec_check.specs.Reports.{Fits}
+use Rattle.reports.specs.Reports.{Fits}
 
 -- ---- the report of each case
 
@@ -43,21 +43,25 @@ fit (result k) r h (Refused x) e = absurd (refused-not-ok e)
 fit (place number line some few) r h (Accepted steps clauses) e = absurd (refused-not-ok (sym e))
 fit (place number line some few) r h (Refused x) e = let l : x .line ≡ line = cc in omega arith
 
--- a stream that is not too long has few lines
-pub judge-fits : (stream : List ℕ) (c : Checked) → checkedOf c ≡ countedOf (judge stream) → Fits c
-unfolding judge guard
-judge-fits stream c e = by-length (leb (length stream) streamBytes) refl
-  where
-    by-length : (b : Bool) → leb (length stream) streamBytes ≡ b → Fits c
-    by-length true t = fit (check-placed stream (clauseWidth * programClauses)) (omega arith) (omega (arith, leb-true (length stream) streamBytes t)) c (rw t at e)
-    by-length false t = fit {room = 0} {most = 0} (place 1 0 (omega arith) (omega arith)) (omega arith) (omega arith) c (rw t at e)
-
 -- ---- the two ways to a verdict
 
-pub too-long : (stream : List ℕ) → streamBytes < length stream → refused 1 0 ≡ countedOf (judge stream)
-unfolding judge guard
-too-long stream h = rw (lt-leb _ _ h)
+module _ (bytes numbers : ℕ) (stream : List ℕ) where
+  pub too-long : bytes < length stream → judge bytes numbers stream ≡ refused 1 0
+  unfolding judge guard
+  too-long h = rw (lt-leb _ _ h)
 
-pub checked : (stream : List ℕ) → length stream ≤ streamBytes → judge stream ≡ check stream (clauseWidth * programClauses)
-unfolding judge guard
-checked stream h = rw (le-leb _ _ h)
+  pub checked : length stream ≤ bytes → judge bytes numbers stream ≡ check stream numbers
+  unfolding judge guard
+  checked h = rw (le-leb _ _ h)
+
+  -- a stream that is not too long has few lines
+  pub judge-fits : bytes < highestLine → (c : Checked) → checkedOf c ≡ countedOf (judge bytes numbers stream) → Fits c
+  judge-fits few c e = by-length (leb (length stream) bytes) refl
+    where
+      by-length : (b : Bool) → leb (length stream) bytes ≡ b → Fits c
+      by-length true t =
+          let short = leb-true (length stream) bytes t in
+          fit (check-placed stream numbers) (omega arith) (omega (arith, short)) c (rw (checked short) at e)
+      by-length false t =
+          let long : bytes < length stream = leb-false (length stream) bytes t in
+          fit {room = 0} {most = 0} (place 1 0 (omega arith) (omega arith)) (omega arith) (omega arith) c (rw (too-long long) at e)

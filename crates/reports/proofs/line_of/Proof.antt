@@ -2,10 +2,10 @@
 use mathlib.Core.Path.{_∙_, ap}
 use native.Mathlib.Omega.{arith}
 use Rattle.model.specs.Frames.{lineOf}
-use Rattle.cec_check.proofs.ReportLaws.{accepted-report, refused-report}
+use Rattle.reports.proofs.ReportLaws.{accepted-report, refused-report}
 use borrow.Author.Needs.{needs}
-use Rattle.cec_check.proofs.report.line_of.Statement.{statement}
-use Rattle.cec_check.proofs.report.line_of.Tie as tie
+use Rattle.reports.proofs.line_of.Statement.{statement}
+use Rattle.reports.proofs.line_of.Tie as tie
 
 enum-known-checked : tie.Need-enum-known-checked
 enum-known-checked c = search needs

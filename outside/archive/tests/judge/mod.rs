@@ -1,11 +1,14 @@
 //! Both sides answer a call, and what they leave is compared: the whole reply, and all lent memory.
 //! The archive is lent garbage between guards. An error says what differs.
 
-use super::expected;
-use super::garbage::{self, Lent};
-use super::list_texts::with_bytes_behind;
-use super::random::Random;
-use super::sizes::{Lengths, Sizes, EIGHT, LINE_BYTES, MOST_CLAUSES};
+// Each test uses a part of it.
+#![allow(dead_code)]
+
+use crate::common::expected;
+use crate::common::garbage::{self, Lent};
+use crate::common::list_texts::with_bytes_behind;
+use crate::common::random::Random;
+use crate::common::sizes::{Lengths, Sizes, EIGHT, LINE_BYTES, MOST_CLAUSES};
 
 /// The reply, on which both agree.
 pub type Judged<const COUNT: usize> = Result<[u64; COUNT], String>;
