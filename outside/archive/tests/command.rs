@@ -1,77 +1,17 @@
-//! The command `cec` of the repository's root: what it says, its exit status and the files that it
-//! leaves, for each command and each sort of message.
+//! The command `cec` of the repository's root: the sentences of each command, and its exit status.
 
 mod common;
 
-use std::env;
-use std::fs::{self, File, Permissions};
-use std::os::unix::fs::PermissionsExt;
-use std::path::{Path, PathBuf};
+use std::fs::{self, File};
 use std::process::{Command, Stdio};
 
-use cec_archive::check;
-use cec_reference::sample::{LISTS, PROOF};
+use cec_reference::sample::PROOF;
+use common::command::{fails, folder, refuses, root, run, said, sample, says, Said, ACCEPTED};
 use common::list_texts::linked;
-use common::proof_texts::bench;
+use common::proof_texts::{bench, proof_behind};
 use common::samples::{self, ADDER, GUARD_NEW, GUARD_OLD, GUARD_ONE_PATTERN, GUARD_RESYNTHESISED};
 
-/// Exit status, standard output and standard error.
-type Said = (Option<i32>, String, String);
-
-fn root() -> PathBuf {
-    Path::new(env!("CARGO_MANIFEST_DIR")).join("../..")
-}
-
-/// An empty folder of this name among the tests' own.
-fn folder(name: &str) -> PathBuf {
-    let folder = Path::new(env!("CARGO_TARGET_TMPDIR")).join(format!("cec-{name}"));
-    if folder.exists() {
-        fs::remove_dir_all(&folder).expect("the folder is removed");
-    }
-    fs::create_dir(&folder).expect("the folder is made");
-    folder
-}
-
-/// Runs the command of this root in a folder. A program `rt` in the root is found before any other.
-fn run_of(root: &Path, folder: &Path, words: &[&str]) -> Said {
-    let path = env::var("PATH").expect("there is a path");
-    let path = format!("{}:{path}", root.display());
-    let mut command = Command::new(root.join("cec"));
-    let command = command.args(words).current_dir(folder).env("PATH", path);
-    said(command)
-}
-
-fn said(command: &mut Command) -> Said {
-    let ended = command.stdin(Stdio::null()).output();
-    let ended = ended.expect("the command runs");
-    let text = |bytes| String::from_utf8(bytes).expect("the output is text");
-    (ended.status.code(), text(ended.stdout), text(ended.stderr))
-}
-
-fn run(folder: &Path, words: &[&str]) -> Said {
-    run_of(&root(), folder, words)
-}
-
-/// A sample's file, by its path.
-fn sample(name: &str) -> String {
-    let file = samples::file(name);
-    file.to_str().expect("the path is text").into()
-}
-
-#[track_caller]
-fn says(said: Said, status: i32, printed: &str) {
-    assert_eq!(said, (Some(status), format!("{printed}\n"), String::new()));
-}
-
-/// Status 2: nothing is printed, and this is in the message.
-#[track_caller]
-fn fails(said: Said, message: &str) {
-    let (status, printed, errors) = said;
-    assert_eq!((status, printed.as_str()), (Some(2), ""), "{errors}");
-    assert!(errors.contains(message), "{errors}");
-}
-
-const ACCEPTED: &str = "accepted: both lists agree on every pattern";
+const WIRE: &str = "0101000001\n040002\n";
 
 /// The README's first command, and what the samples' table says of each pair.
 #[test]
@@ -106,7 +46,8 @@ fn other_forms_are_18_with_the_output() {
     for (other, output) in [(GUARD_ONE_PATTERN, 3), (GUARD_RESYNTHESISED, 1)] {
         let said = run(&folder, &["prove", &old, &sample(other), "-o", "evidence"]);
         let line = format!(
-            "refused (18): the folded forms of output {output} differ; the lists may agree or not"
+            "refused (18): output {output} of 12 is the first whose folded forms differ; the \
+             lists may agree or not"
         );
         says(said, 1, &line);
         assert!(!folder.join("evidence").exists());
@@ -132,6 +73,18 @@ fn words_are_printed_alone() {
     says(zero, 0, "0000000000000000");
     let sum = run(&folder, &["eval", &adder, "1FFFFFFFF"]);
     says(sum, 0, "000000000001FFFF");
+    let ones = run(&folder, &["eval", &adder, "ffffffffffffffff"]);
+    says(ones, 0, "000000000001FFFF");
+}
+
+#[test]
+fn a_list_is_counted() {
+    let folder = folder("counts");
+    let adder = sample(ADDER);
+    let sentence = format!("{adder}: one list of 33 inputs, 80 gates and 17 outputs");
+    says(run(&folder, &["list", &adder]), 0, &sentence);
+    let said = run(&folder, &["list", "--frame", &adder]);
+    says(said, 0, &format!("{sentence}\n0121005011"));
 }
 
 /// The frame stands on a line of its own behind the sentence.
@@ -146,14 +99,12 @@ fn frames_are_printed_if_asked_for() {
     let printed = "refused (4), line 3: the text ends where a frame of a list is due\n\
         210400000300000000";
     says(run(&folder, &["check", &wire, "--frame"]), 1, printed);
-    let printed = "refused (18): the folded forms of output 3 differ; the lists may agree or not\n\
-        211200000300000000";
+    let printed = "refused (18): output 3 of 12 is the first whose folded forms differ; the lists \
+        may agree or not\n211200000300000000";
     let [old, altered] = [GUARD_OLD, GUARD_ONE_PATTERN].map(sample);
     let said = run(&folder, &["prove", &old, &altered, "--frame"]);
     says(said, 1, printed);
 }
-
-const WIRE: &str = "0101000001\n040002\n";
 
 /// Faulty lists, and the number and line of the refusal.
 const FAULTS: [(&str, u64, u64); 6] = [
@@ -165,55 +116,69 @@ const FAULTS: [(&str, u64, u64); 6] = [
     ("0101000001\n040002", 2, 2),
 ];
 
-/// Status 1, and a sentence that begins so.
-#[track_caller]
-fn refuses(said: Said, sentence: &str) {
-    let (status, printed, errors) = said;
-    assert_eq!((status, errors.as_str()), (Some(1), ""), "{printed}");
-    assert!(printed.starts_with(sentence), "{printed}");
-    assert!(printed.ends_with('\n'), "{printed}");
-}
-
-/// A list's refusals by `eval`; by `prove` with the line in its own file, on both sides.
+/// A list's refusals name its own file and line, on either side of a pair, and come before anything
+/// is made.
 #[test]
-fn refusals_of_lists_have_words_and_a_line() {
+fn refusals_of_lists_name_the_file_and_its_line() {
     let folder = folder("lists");
     fs::write(folder.join("wire"), WIRE).expect("it is written");
     let list = |text: &str| fs::write(folder.join("list"), text).expect("it is written");
     for (text, number, line) in FAULTS {
         list(text);
-        let alone = format!("refused ({number}), line {line}: ");
-        refuses(run(&folder, &["eval", "list", "1"]), &alone);
-        let behind = line + 2;
-        let right =
-            format!("refused ({number}), line {behind} of both lists, line {line} of list: ");
-        refuses(run(&folder, &["prove", "wire", "list"]), &right);
+        let sentence = format!("refused ({number}), line {line} of list: ");
+        let commands: [&[&str]; 5] = [
+            &["eval", "list", "1"],
+            &["list", "list"],
+            &["prove", "wire", "list", "-o", "evidence"],
+            &["prove", "list", "wire", "-o", "evidence"],
+            &["prove", "list", "list", "-o", "evidence"],
+        ];
+        for words in commands {
+            refuses(run(&folder, words), &sentence);
+        }
+        assert!(!folder.join("evidence").exists());
     }
-    list("0101000000\n");
-    let said = run(&folder, &["prove", "list", "wire"]);
-    let line = "refused (5), line 1 of list: a count in the header is outside its range";
-    says(said, 1, line);
     list("0102000001\n040002\n");
     let said = run(&folder, &["prove", "wire", "list"]);
-    let line = "refused (6), line 3 of both lists, line 1 of list: inputs or outputs are unlike \
-        those of the first list";
+    let line = "refused (6), line 1 of list: inputs or outputs are unlike those of the first list";
     says(said, 1, line);
+    list(&"0".repeat(65_537));
+    let said = run(&folder, &["prove", "wire", "list"]);
+    says(said, 1, "refused (1): the text is longer than 65,536 bytes");
 }
 
-/// The checking program's own refusals, those of its limits among them.
+/// Two lists in one file are no list, wherever the other file begins.
+#[test]
+fn a_pair_that_is_split_elsewhere_is_refused() {
+    let folder = folder("split");
+    let pair = ["paper-gate", "paper-wire"].map(samples::text).concat();
+    let lines: Vec<_> = pair.split_inclusive(|byte| *byte == b'\n').collect();
+    assert_eq!(lines.len(), 5);
+    for place in 0..=5 {
+        fs::write(folder.join("left"), lines[..place].concat()).expect("it is written");
+        fs::write(folder.join("right"), lines[place..].concat()).expect("it is written");
+        let said = run(&folder, &["prove", "left", "right"]);
+        let sentence = match place {
+            0..=2 => format!("refused (4), line {} of left: ", place + 1),
+            3 => {
+                says(said, 0, &format!("{ACCEPTED} (4 proof lines, 13 clauses)"));
+                continue;
+            }
+            _ => "refused (3), line 4 of left: ".to_string(),
+        };
+        refuses(said, &sentence);
+    }
+}
+
+/// The checking program's own refusals.
 #[test]
 fn refusals_of_evidence_have_words_and_a_line() {
     let folder = folder("evidence");
-    let gates = "0300000000\n".repeat(1_024);
-    let wide = format!("0100040001\n{gates}040000\n0100000001\n040000\n");
     let proof = |lines: &str| bench(&[lines]);
     let faults = [
-        (proof(&PROOF[0].repeat(5_000)), "refused (1): the text is"),
-        (wide, "refused (8): the store is too short"),
         (proof("11000A00020002\n"), "refused (9), line 6: a clause"),
         (proof("11000500020001\n"), "refused (10), line 6: the var"),
         (proof("1200200002\n"), "refused (12), line 6: the variable"),
-        (proof(&PROOF[0].repeat(4_090)), "refused (14), line 4093: "),
         (proof(PROOF[0]), "refused (15): there is no proof, or its"),
         (proof("110005000200\n"), "refused (3), line 6: no frame"),
         (proof("1"), "refused (2), line 6: a byte other than"),
@@ -224,30 +189,109 @@ fn refusals_of_evidence_have_words_and_a_line() {
     }
 }
 
-/// Evidence for which the checking program has no room is kept, and the call accepts it.
+/// Evidence that is beyond the limits of `cec_check` is judged by `cec_check_large`, and the sentence
+/// says so; some is beyond that one's too.
 #[test]
-fn long_proofs_are_told_from_refused_ones() {
+fn long_evidence_is_judged_by_the_large_program() {
+    let folder = folder("large");
+    let gates = "0300000000\n".repeat(1_024);
+    let wide = format!("0100040001\n{gates}040000\n0100000001\n040000\n");
+    let proof = |lines: &str| bench(&[lines]);
+    let large = "refused by cec_check_large";
+    let faults = [
+        (proof(&PROOF[0].repeat(5_000)), " (15): there is no proof"),
+        (wide, " (15): there is no proof"),
+        (proof(&PROOF[0].repeat(4_090)), " (15): there is no proof"),
+        (
+            proof(&(PROOF[0].repeat(4_090) + "11000500020001\n")),
+            " (10), line 4096: the variable",
+        ),
+        (
+            proof(&PROOF[0].repeat(65_527)),
+            " (14), line 65532: the store lacks space",
+        ),
+        (
+            proof(&PROOF[0].repeat(279_700)),
+            " (1): the text is longer than 4,194,304 bytes",
+        ),
+    ];
+    for (text, sentence) in faults {
+        fs::write(folder.join("evidence"), text).expect("it is written");
+        let said = run(&folder, &["check", "evidence"]);
+        refuses(said, &format!("{large}{sentence}"));
+    }
+}
+
+/// A proof that the engine makes and `cec_check` has no room for is accepted, with by how much it is
+/// beyond; only the limit that is passed is named.
+#[test]
+fn long_proofs_are_accepted_and_said_to_be_long() {
     let folder = folder("long");
     let lists = linked("03");
     let (left, right) = lists.split_at(lists.len() / 2);
     fs::write(folder.join("left"), left).expect("it is written");
     fs::write(folder.join("right"), right).expect("it is written");
-    let (status, printed, errors) = run(&folder, &["prove", "left", "right", "-o", "long one"]);
-    assert_eq!((status, errors.as_str()), (Some(1), ""));
+    let said = run(&folder, &["prove", "left", "right", "-o", "long one"]);
     let evidence = fs::read(folder.join("long one")).expect("it was kept");
     let lines = (evidence.len() - lists.len()) / 15;
+    // Each line adds a clause to the miter's: 4 of an XOR gate, 7 of an output but for one.
+    let clauses = 4 * 2 * 1_024 + 7 * 64 - 1 + lines;
     let sentence = format!(
-        "proved, but not checked (1): a proof of {lines} lines was made, in long one, beyond "
+        "accepted by cec_check_large: both lists agree on every pattern ({lines} proof lines, \
+         {clauses} clauses); beyond the limits of cec_check by {} bytes and {} clauses",
+        evidence.len() - 65_536,
+        clauses - 4_096
     );
-    assert!(printed.starts_with(&sentence), "{printed}");
-    let [refusal, _, steps, _] = check(&evidence, &mut vec![0; 8 * 65_535]);
-    assert_eq!((refusal, steps), (0, lines as u64));
-    let (status, printed, _) = run(&folder, &["prove", "left", "right"]);
-    let sentence = format!("a proof of {lines} lines was made, beyond");
-    assert!(
-        status == Some(1) && printed.contains(&sentence),
-        "{printed}"
+    says(said, 0, &sentence);
+    says(run(&folder, &["check", "long one"]), 0, &sentence);
+    let mut short = proof_behind(4_084);
+    fs::write(folder.join("clauses"), &short).expect("it is written");
+    assert!(short.len() <= 65_536);
+    let said = run(&folder, &["check", "clauses"]);
+    let sentence = "accepted by cec_check_large: both lists agree on every pattern (4088 proof \
+        lines, 4097 clauses); beyond the limits of cec_check by 1 clauses";
+    says(said, 0, sentence);
+    short = proof_behind(4_083);
+    fs::write(folder.join("clauses"), &short).expect("it is written");
+    let said = run(&folder, &["check", "clauses"]);
+    says(
+        said,
+        0,
+        &format!("{ACCEPTED} (4087 proof lines, 4096 clauses)"),
     );
+}
+
+/// `-` is standard input, for each file that is read; it cannot be both lists.
+#[test]
+fn a_dash_is_standard_input() {
+    let folder = folder("dash");
+    let [gate, wire] = ["paper-gate", "paper-wire"].map(sample);
+    let accepted = format!("{ACCEPTED} (4 proof lines, 13 clauses)");
+    let (status, ..) = run(&folder, &["prove", &gate, &wire, "-o", "evidence"]);
+    assert_eq!(status, Some(0));
+    let read = |words: &[&str], file: &str| -> Said {
+        let file = File::open(folder.join(file)).expect("it is there");
+        let mut command = Command::new(root().join("cec"));
+        let command = command.args(words).current_dir(&folder);
+        said(command.stdin(file))
+    };
+    says(read(&["prove", "-", &wire], &gate), 0, &accepted);
+    says(read(&["prove", &gate, "-"], &wire), 0, &accepted);
+    says(read(&["check", "-"], "evidence"), 0, &accepted);
+    says(read(&["eval", "-", "1"], &gate), 0, "0000000000000001");
+    let sentence = "standard input: one list of 1 inputs, 1 gates and 1 outputs";
+    says(read(&["list", "-"], &gate), 0, sentence);
+    refuses(
+        read(&["prove", &gate, "-"], "evidence"),
+        "refused (3), line 4 of standard input: ",
+    );
+    let message = "cec: standard input can be only one of the two lists\n";
+    fails(read(&["prove", "-", "-"], &gate), message);
+    // A file that can be read only once.
+    let piped = format!("cat {gate} | ./cec prove /dev/stdin {wire}");
+    let mut command = Command::new("sh");
+    let command = command.args(["-c", &piped]).current_dir(root());
+    says(said(command), 0, &accepted);
 }
 
 #[test]
@@ -271,7 +315,7 @@ fn names_may_have_spaces_and_begin_with_a_dash() {
 fn bad_usage_shows_the_usage() {
     let folder = folder("usage");
     let adder = sample(ADDER);
-    let wrong: [&[&str]; 14] = [
+    let wrong: [&[&str]; 16] = [
         &[],
         &["prove"],
         &["prove", &adder],
@@ -282,10 +326,12 @@ fn bad_usage_shows_the_usage() {
         &["check"],
         &["check", &adder, &adder],
         &["check", &adder, "-o", "evidence"],
+        &["list", &adder, &adder],
         &["eval", &adder],
         &["eval", &adder, "-1"],
         &["prove3"],
         &["judge", &adder],
+        &["help", "judge"],
     ];
     for words in wrong {
         fails(run(&folder, words), "usage: cec prove OLD NEW");
@@ -296,54 +342,44 @@ fn bad_usage_shows_the_usage() {
     }
 }
 
+/// Help is an answer: on standard output, with status 0, and for each command about that.
 #[test]
-fn files_that_cannot_be_read_are_named() {
-    let folder = folder("unread");
-    let adder = sample(ADDER);
-    let commands: [&[&str]; 4] = [
-        &["prove", "list", &adder],
-        &["prove", &adder, "list"],
-        &["check", "list"],
-        &["eval", "list", "0"],
-    ];
-    let all_say = |message: &str| {
-        for words in commands {
-            fails(run(&folder, words), &format!("cec: list: {message}\n"));
-        }
+fn help_is_an_answer() {
+    let folder = folder("help");
+    let answer = |words: &[&str]| {
+        let (status, printed, errors) = run(&folder, words);
+        assert_eq!((status, errors.as_str()), (Some(0), ""), "{words:?}");
+        printed
     };
-    all_say("there is no such file");
-    fs::create_dir(folder.join("list")).expect("it is made");
-    all_say("this is a directory");
-    fs::remove_dir(folder.join("list")).expect("it is removed");
-    fs::write(folder.join("list"), WIRE).expect("it is written");
-    let unreadable = Permissions::from_mode(0o000);
-    fs::set_permissions(folder.join("list"), unreadable).expect("it is ours");
-    // The superuser reads every file.
-    if File::open(folder.join("list")).is_err() {
-        all_say("this file cannot be read");
+    let all = answer(&["help"]);
+    assert!(all.starts_with("usage: cec prove OLD NEW"), "{all}");
+    for words in [["--help"], ["-h"]] {
+        assert_eq!(answer(&words), all);
+    }
+    for command in ["prove", "check", "list", "eval"] {
+        let one = answer(&["help", command]);
+        assert!(one.starts_with(&format!("usage: cec {command} ")), "{one}");
+        assert!(one.contains("Status 0: "), "{one}");
+        assert_eq!(answer(&[command, "--help"]), one);
+        assert!(all.contains(&format!("cec {command} ")), "{all}");
     }
 }
 
-/// Nothing is left where evidence cannot be written, and an earlier file stays after a refusal.
+/// The version is that of the packages, and the limits are those of the programs.
 #[test]
-fn evidence_is_written_whole_or_not_at_all() {
-    let folder = folder("unwritten");
-    let [gate, wire, adder] = ["paper-gate", "paper-wire", ADDER].map(sample);
-    let nowhere = run(&folder, &["prove", &gate, &wire, "-o", "nowhere/evidence"]);
-    fails(
-        nowhere,
-        "cec: nowhere/evidence: this file cannot be written\n",
-    );
-    let a_folder = run(&folder, &["prove", &gate, &wire, "-o", "."]);
-    fails(a_folder, "cec: .: this is no regular file\n");
-    fs::write(folder.join("kept"), "earlier").expect("it is written");
-    let (status, ..) = run(&folder, &["prove", &gate, &adder, "-o", "kept"]);
-    let kept = || fs::read_to_string(folder.join("kept")).expect("it is there");
-    assert_eq!((status, kept().as_str()), (Some(1), "earlier"));
-    let (status, ..) = run(&folder, &["prove", &gate, &wire, "-o", "kept"]);
-    assert_eq!((status, kept().len()), (Some(0), bench(&PROOF).len()));
-    assert!(kept().starts_with(LISTS));
-    assert_eq!(fs::read_dir(&folder).expect("it is there").count(), 1);
+fn the_version_has_formats_and_limits() {
+    let folder = folder("version");
+    let (status, printed, errors) = run(&folder, &["--version"]);
+    assert_eq!((status, errors.as_str()), (Some(0), ""));
+    let first = concat!("cec ", env!("CARGO_PKG_VERSION"), "\n");
+    assert!(printed.starts_with(first), "{printed}");
+    for part in [
+        "frames 01 to 04 and 11 to 13",
+        "cec_check: up to 65,536 bytes and 4,096 clauses\n",
+        "cec_check_large: up to 4,194,304 bytes and 65,535 clauses\n",
+    ] {
+        assert!(printed.contains(part), "{printed}");
+    }
 }
 
 #[test]
@@ -356,107 +392,8 @@ fn a_sentence_that_is_not_written_is_no_success() {
     assert_eq!(ended.expect("the command runs").code(), Some(2));
 }
 
-/// A root of its own, with stand-ins for the programs and for `rt`.
-fn stand_ins(name: &str, scripts: &[(&str, &str)]) -> PathBuf {
-    let root = folder(name);
-    fs::create_dir_all(root.join("target/bin")).expect("they are made");
-    let text = fs::read_to_string(self::root().join("cec")).expect("it is read");
-    make_executable(&root.join("cec"), &text);
-    for (file, script) in scripts {
-        make_executable(&root.join(file), &format!("#!/bin/sh\n{script}\n"));
-    }
-    root
-}
-
-/// Another process writes the file. A file that this one has open for writing cannot be run, and a
-/// process that another test starts at that moment would have it open too.
-fn make_executable(file: &Path, text: &str) {
-    let mut command = Command::new("sh");
-    let write = "printf '%s' \"$2\" >\"$1\" && chmod +x \"$1\"";
-    let command = command.args(["-c", write, "sh"]).arg(file).arg(text);
-    let ended = command.status().expect("the shell runs");
-    assert!(ended.success(), "the file is written");
-}
-
-#[test]
-fn a_program_is_built_on_its_first_use() {
-    let program = "printf '#!/bin/sh\\necho 21000000000004000D\\n' >\"target/bin/$2\"";
-    let rt = format!("echo much of it\n{program}\nchmod +x \"target/bin/$2\"");
-    let root = stand_ins("build", &[("rt", &rt)]);
-    let (status, printed, errors) = run_of(&root, &root, &["check", &sample(ADDER)]);
-    assert_eq!(status, Some(0), "{errors}");
-    assert_eq!(printed, format!("{ACCEPTED} (4 proof lines, 13 clauses)\n"));
-    let message = "cec: cec_check is proved and built first, which takes minutes\n";
-    assert_eq!(errors, message);
-    let (_, again, errors) = run_of(&root, &root, &["check", &sample(ADDER)]);
-    assert_eq!((again, errors), (printed, String::new()));
-    let root = stand_ins("no-build", &[("rt", "echo why\nexit 1")]);
-    let said = run_of(&root, &root, &["check", &sample(ADDER)]);
-    fails(said, "why\ncec: cec_check could not be built\n");
-}
-
-/// Programs that end early, as on a full disk: nothing printed, or evidence cut off.
-#[test]
-fn half_an_answer_is_no_verdict() {
-    let [gate, wire] = ["paper-gate", "paper-wire"].map(sample);
-    let silent = [
-        ("target/bin/cec_check", "exit 0"),
-        ("target/bin/cec_prove", "exit 0"),
-        ("target/bin/cec_eval", "exit 0"),
-    ];
-    let root = stand_ins("silent", &silent);
-    let commands: [&[&str]; 3] = [
-        &["prove", &gate, &wire],
-        &["check", &gate],
-        &["eval", &gate, "0"],
-    ];
-    for words in commands {
-        fails(run_of(&root, &root, words), "a program gave no answer");
-    }
-    let program = |name: &str| {
-        let program = self::root().join("target/bin").join(name);
-        program.to_str().expect("the path is text").to_string()
-    };
-    let checker = format!("exec {}", program("cec_check"));
-    for bytes in [10, 47, 62, 100, 106] {
-        let cut = format!("{} | head -c {bytes}", program("cec_prove"));
-        let scripts = [
-            ("target/bin/cec_check", checker.as_str()),
-            ("target/bin/cec_prove", cut.as_str()),
-        ];
-        let root = stand_ins("cut-off", &scripts);
-        let words = ["prove", &gate, &wire, "-o", "evidence"];
-        let said = run_of(&root, &root, &words);
-        fails(said, "the evidence is not both lists and a whole proof");
-        assert!(!root.join("evidence").exists());
-    }
-}
-
-/// The verdict is about the lists that were given, whatever lists a proving program prints.
-#[test]
-fn evidence_for_other_lists_is_no_evidence() {
-    let [gate, wire, adder] = ["paper-gate", "paper-wire", ADDER].map(sample);
-    let checker = self::root().join("target/bin/cec_check");
-    let checker = format!("exec {}", checker.display());
-    let folder = folder("other-lists");
-    let (status, ..) = run(&folder, &["prove", &gate, &wire, "-o", "evidence"]);
-    assert_eq!(status, Some(0));
-    let other = format!("cat {}/evidence", folder.display());
-    let scripts = [
-        ("target/bin/cec_check", checker.as_str()),
-        ("target/bin/cec_prove", other.as_str()),
-    ];
-    let root = stand_ins("other", &scripts);
-    let (status, ..) = run_of(&root, &folder, &["prove", &gate, &wire]);
-    assert_eq!(status, Some(0));
-    for pair in [[&adder, &adder], [&wire, &gate], [&wire, &wire]] {
-        let said = run_of(&root, &folder, &["prove", pair[0], pair[1]]);
-        fails(said, "the evidence is not both lists and a whole proof");
-    }
-}
-
 /// Runs the command in a shell that allows a stack of so many KB.
-fn run_with_stack(folder: &Path, kilobytes: u32, words: &[&str]) -> Said {
+fn run_with_stack(folder: &std::path::Path, kilobytes: u32, words: &[&str]) -> Said {
     let limit = format!("ulimit -s {kilobytes}; exec \"$0\" \"$@\"");
     let mut command = Command::new("sh");
     let command = command.args(["-c", &limit]).arg(root().join("cec"));
@@ -473,21 +410,24 @@ fn a_stack_that_is_too_small_is_named() {
     fs::write(folder.join("left"), left).expect("it is written");
     fs::write(folder.join("right"), right).expect("it is written");
     fs::write(folder.join("both"), &lists).expect("it is written");
-    let commands: [(&str, u32, &[&str]); 3] = [
-        ("cec_prove", 1_024, &["prove", "left", "right"]),
-        ("cec_check", 512, &["check", "both"]),
+    fs::write(folder.join("short"), bench(&PROOF)).expect("it is written");
+    let [gate, wire] = ["paper-gate", "paper-wire"].map(sample);
+    let commands: [(&str, u32, &[&str]); 5] = [
+        ("cec_check_large", 7_168, &["prove", "left", "right"]),
+        ("cec_check_large", 7_168, &["check", "both"]),
+        ("cec_prove", 1_024, &["prove", &gate, &wire]),
+        ("cec_check", 512, &["check", "short"]),
         ("cec_eval", 256, &["eval", "left", "3"]),
     ];
     for (program, needed, words) in commands {
         let enough = run_with_stack(&folder, needed, words);
         assert_eq!(enough, run(&folder, words), "{program}");
         assert_eq!(enough.2, "", "{program}");
-        for allowed in [needed - 1, 200] {
-            let message = format!(
-                "cec: {program} needs a stack of {needed} KB; this shell allows {allowed} (ulimit -s)\n"
-            );
-            let said = run_with_stack(&folder, allowed, words);
-            assert_eq!(said, (Some(2), String::new(), message));
-        }
+        let allowed = needed - 1;
+        let message = format!(
+            "cec: {program} needs a stack of {needed} KB; this shell allows {allowed} (ulimit -s)\n"
+        );
+        let said = run_with_stack(&folder, allowed, words);
+        assert_eq!(said, (Some(2), String::new(), message));
     }
 }

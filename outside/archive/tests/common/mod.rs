@@ -7,6 +7,7 @@
 
 pub mod calls;
 pub mod checking;
+pub mod command;
 pub mod expected;
 pub mod extensions;
 pub mod garbage;

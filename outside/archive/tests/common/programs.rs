@@ -63,7 +63,7 @@ fn dir() -> &'static Path {
     })
 }
 
-/// A program's file.
+/// A program's file. A program that cargo builds is named by its whole path, and lies there.
 fn file(program: &str) -> PathBuf {
     let file = dir().join(program);
     assert!(

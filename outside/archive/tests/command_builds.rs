@@ -1,0 +1,199 @@
+//! The command `cec` and the programs that it runs: built on first use and where a source is newer,
+//! with what is being proved shown, found through links, and ended with it.
+
+mod common;
+
+use std::fs;
+use std::os::unix::fs::symlink;
+use std::os::unix::process::CommandExt;
+use std::path::{Path, PathBuf};
+use std::process::{Command, Stdio};
+use std::thread;
+use std::time::{Duration, Instant};
+
+use common::command::{command_of, fails, folder, root, run_of, said, sample, stand_ins, ACCEPTED};
+use common::samples::ADDER;
+
+const SENTENCE: &str = "accepted: both lists agree on every pattern (4 proof lines, 13 clauses)\n";
+
+/// A stand-in for `rt` that builds a checker; `before` comes first.
+fn builder(before: &str) -> String {
+    let program = "printf '#!/bin/sh\\necho 21000000000004000D\\n' >\"target/bin/$2\"";
+    format!("echo much of it\n{before}\n{program}\nchmod +x \"target/bin/$2\"")
+}
+
+/// Standard error of a check by this root's command, which is accepted.
+fn errors_of(root: &Path) -> String {
+    let (status, printed, errors) = run_of(root, root, &["check", &sample(ADDER)]);
+    assert_eq!((status, printed.as_str()), (Some(0), SENTENCE), "{errors}");
+    errors
+}
+
+const FIRST: &str = "cec: cec_check is proved and built first, which takes minutes\n";
+
+#[test]
+fn a_program_is_built_on_its_first_use() {
+    assert!(SENTENCE.starts_with(ACCEPTED));
+    let root = stand_ins("build", &[("rt", &builder(""))]);
+    assert_eq!(errors_of(&root), FIRST);
+    assert_eq!(errors_of(&root), "");
+    let root = stand_ins("no-build", &[("rt", "echo why\nexit 1")]);
+    let said = run_of(&root, &root, &["check", &sample(ADDER)]);
+    fails(said, "why\ncec: cec_check could not be built\n");
+}
+
+/// Code of any crate and a definition of `model` count; the program is built again once.
+#[test]
+fn a_program_that_is_older_than_a_source_is_built_again() {
+    let root = stand_ins("stale", &[("rt", &builder(""))]);
+    for folder in ["crates/frame/src", "crates/model/specs"] {
+        fs::create_dir_all(root.join(folder)).expect("they are made");
+    }
+    fs::write(root.join("crates.txt"), "model:\ncec_check: model\n").expect("it is written");
+    assert_eq!(errors_of(&root), FIRST);
+    let sources = [
+        "crates.txt",
+        "crates/frame/src/lib.rt",
+        "crates/model/specs/Limits.antt",
+    ];
+    for source in sources {
+        assert_eq!(errors_of(&root), "");
+        // A file system need not tell two moments apart that are nearer than this.
+        thread::sleep(Duration::from_millis(20));
+        fs::write(root.join(source), "cec_check:\n").expect("it is written");
+        let message =
+            format!("cec: cec_check is older than {source}, and is proved and built again\n");
+        assert_eq!(errors_of(&root), message);
+    }
+    assert_eq!(errors_of(&root), "");
+    // A build that leaves the program as it was is not tried again either.
+    thread::sleep(Duration::from_millis(20));
+    fs::write(root.join("crates.txt"), "cec_check:\n").expect("it is written");
+    fs::write(root.join("rt"), "#!/bin/sh\n").expect("it is written");
+    assert!(errors_of(&root).contains("crates.txt"));
+    assert_eq!(errors_of(&root), "");
+}
+
+/// A stand-in that takes its time over two crates, as `rt` does.
+fn slow_builder() -> String {
+    let first = "mkdir -p target/log\necho failed >target/log/model.res\nsleep 0.7";
+    let second =
+        "echo proved >target/log/model.res\necho failed >target/log/cec_check.res\nsleep 0.7";
+    builder(&format!(
+        "{first}\n{second}\necho built >target/log/cec_check.res"
+    ))
+}
+
+fn slow_root(name: &str) -> PathBuf {
+    let root = stand_ins(name, &[("rt", &slow_builder())]);
+    let crates = "# all of them\nmodel:\nsets: model\ncec_check: model io\n";
+    fs::write(root.join("crates.txt"), crates).expect("it is written");
+    root
+}
+
+/// Which crate of how many that the program rests on; a line for each elsewhere than on a terminal.
+#[test]
+fn a_build_says_what_is_being_proved() {
+    let root = slow_root("progress");
+    let lines = "cec: proving crate 1 of 2: model\ncec: proving crate 2 of 2: cec_check\n";
+    assert_eq!(errors_of(&root), format!("{FIRST}{lines}"));
+    assert_eq!(errors_of(&root), "");
+}
+
+/// On a terminal one line that moves, and is gone in the end.
+#[test]
+fn a_build_on_a_terminal_has_one_line() {
+    let root = slow_root("terminal");
+    let words = format!("./cec check {}", sample(ADDER));
+    let mut command = Command::new("script");
+    let command = command
+        .args(["-qec", &words, "/dev/null"])
+        .current_dir(&root);
+    let path = std::env::var("PATH").expect("there is a path");
+    let command = command.env("PATH", format!("{}:{path}", root.display()));
+    let (status, shown, _) = said(command.stdin(Stdio::null()));
+    assert_eq!(status, Some(0), "{shown}");
+    let moves = "\r\x1b[Kcec: proving crate 1 of 2: model\
+        \r\x1b[Kcec: proving crate 2 of 2: cec_check\r\x1b[Kaccepted: ";
+    assert!(shown.contains(moves), "{shown:?}");
+}
+
+/// Whether a process of this number is at work.
+fn runs(process: &str) -> bool {
+    let about = fs::read_to_string(format!("/proc/{process}/stat")).unwrap_or_default();
+    // The state stands behind the name, which is in brackets; Z is one that has ended.
+    let state = about
+        .rsplit(") ")
+        .next()
+        .and_then(|rest| rest.chars().next());
+    state.is_some_and(|state| state != 'Z')
+}
+
+/// Waits until this holds, for some seconds.
+#[track_caller]
+fn wait_until(holds: impl Fn() -> bool) {
+    let begun = Instant::now();
+    while !holds() {
+        assert!(
+            begun.elapsed() < Duration::from_secs(10),
+            "it took too long"
+        );
+        thread::sleep(Duration::from_millis(20));
+    }
+}
+
+/// By a signal to the command alone, and by one to all of its group, as a terminal sends it.
+#[test]
+fn an_interrupted_build_leaves_no_prover() {
+    let rt = "sleep 600 &\necho $! >begun\nmv begun prover\nwait";
+    for (signal, group, status) in [("TERM", "", 143), ("INT", "-", 130), ("HUP", "", 129)] {
+        let root = stand_ins("interrupted", &[("rt", rt)]);
+        let adder = sample(ADDER);
+        let mut command = command_of(&root, &root, &["check", &adder]);
+        let command = command.stdout(Stdio::null()).stderr(Stdio::null());
+        let mut child = command.process_group(0).spawn().expect("it starts");
+        let prover = root.join("prover");
+        wait_until(|| prover.exists());
+        let prover = fs::read_to_string(prover).expect("it is there");
+        let prover = prover.trim();
+        assert!(runs(prover));
+        let to = format!("{group}{}", child.id());
+        let kill = Command::new("kill")
+            .args(["-s", signal, "--", &to])
+            .status();
+        assert!(kill.expect("kill runs").success());
+        assert_eq!(child.wait().expect("it ends").code(), Some(status));
+        wait_until(|| !runs(prover));
+        assert!(!root.join("target/bin/cec_check").exists());
+    }
+}
+
+/// Through a link, a link to a link, and a relative one, from any folder.
+#[test]
+fn a_link_to_the_command_finds_the_programs() {
+    let folder = folder("links");
+    let cec = root().canonicalize().expect("it is there").join("cec");
+    symlink(&cec, folder.join("whole")).expect("it is made");
+    symlink("whole", folder.join("again")).expect("it is made");
+    fs::create_dir(folder.join("sub")).expect("it is made");
+    symlink("../again", folder.join("sub/up")).expect("it is made");
+    let [gate, wire] = ["paper-gate", "paper-wire"].map(sample);
+    for (link, place) in [
+        ("whole", "."),
+        ("again", "/"),
+        ("sub/up", "."),
+        ("sub/up", "/"),
+    ] {
+        let mut command = Command::new(folder.join(link));
+        let command = command.args(["prove", &gate, &wire]);
+        let said = said(command.current_dir(folder.join(place)));
+        assert_eq!(said, (Some(0), SENTENCE.into(), String::new()), "{link}");
+    }
+    // By its name alone, found in the path.
+    let mut command = Command::new("sh");
+    let words = format!("again prove {gate} {wire}");
+    let command = command.args(["-c", &words]).current_dir("/");
+    let path = std::env::var("PATH").expect("there is a path");
+    let command = command.env("PATH", format!("{}:{path}", folder.display()));
+    assert_eq!(said(command), (Some(0), SENTENCE.into(), String::new()));
+}

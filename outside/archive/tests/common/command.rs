@@ -1,0 +1,109 @@
+//! Runs of the command `cec` of the repository's root, and of a copy of it with stand-ins for the
+//! programs and for `rt`.
+
+use std::env;
+use std::fs;
+use std::path::{Path, PathBuf};
+use std::process::{Command, Stdio};
+
+use super::samples;
+
+/// Exit status, standard output and standard error.
+pub type Said = (Option<i32>, String, String);
+
+pub const ACCEPTED: &str = "accepted: both lists agree on every pattern";
+
+pub fn root() -> PathBuf {
+    Path::new(env!("CARGO_MANIFEST_DIR")).join("../..")
+}
+
+/// An empty folder of this name among the tests' own.
+pub fn folder(name: &str) -> PathBuf {
+    let folder = Path::new(env!("CARGO_TARGET_TMPDIR")).join(format!("cec-{name}"));
+    if folder.exists() {
+        fs::remove_dir_all(&folder).expect("the folder is removed");
+    }
+    fs::create_dir(&folder).expect("the folder is made");
+    folder
+}
+
+/// The command of this root with these words, in a folder. A program `rt` in the root is found before
+/// any other.
+pub fn command_of(root: &Path, folder: &Path, words: &[&str]) -> Command {
+    let path = env::var("PATH").expect("there is a path");
+    let mut command = Command::new(root.join("cec"));
+    let command_path = format!("{}:{path}", root.display());
+    command.args(words).current_dir(folder);
+    command.env("PATH", command_path).stdin(Stdio::null());
+    command
+}
+
+pub fn said(command: &mut Command) -> Said {
+    let ended = command.output().expect("the command runs");
+    let text = |bytes| String::from_utf8(bytes).expect("the output is text");
+    (ended.status.code(), text(ended.stdout), text(ended.stderr))
+}
+
+pub fn run_of(root: &Path, folder: &Path, words: &[&str]) -> Said {
+    said(&mut command_of(root, folder, words))
+}
+
+pub fn run(folder: &Path, words: &[&str]) -> Said {
+    run_of(&root(), folder, words)
+}
+
+/// A sample's file, by its path.
+pub fn sample(name: &str) -> String {
+    let file = samples::file(name);
+    file.to_str().expect("the path is text").into()
+}
+
+#[track_caller]
+pub fn says(said: Said, status: i32, printed: &str) {
+    assert_eq!(said, (Some(status), format!("{printed}\n"), String::new()));
+}
+
+/// Status 2: nothing is printed, and this is in the message.
+#[track_caller]
+pub fn fails(said: Said, message: &str) {
+    let (status, printed, errors) = said;
+    assert_eq!((status, printed.as_str()), (Some(2), ""), "{errors}");
+    assert!(errors.contains(message), "{errors}");
+}
+
+/// Status 1, and a sentence that begins so.
+#[track_caller]
+pub fn refuses(said: Said, sentence: &str) {
+    let (status, printed, errors) = said;
+    assert_eq!((status, errors.as_str()), (Some(1), ""), "{printed}");
+    assert!(printed.starts_with(sentence), "{printed}");
+    assert!(printed.ends_with('\n'), "{printed}");
+}
+
+/// A root of its own, with stand-ins for the programs and for `rt`.
+pub fn stand_ins(name: &str, scripts: &[(&str, &str)]) -> PathBuf {
+    let root = folder(name);
+    fs::create_dir_all(root.join("target/bin")).expect("they are made");
+    let text = fs::read_to_string(self::root().join("cec")).expect("it is read");
+    make_executable(&root.join("cec"), &text);
+    for (file, script) in scripts {
+        make_executable(&root.join(file), &format!("#!/bin/sh\n{script}\n"));
+    }
+    root
+}
+
+/// Another process writes the file. A file that this one has open for writing cannot be run, and a
+/// process that another test starts at that moment would have it open too.
+fn make_executable(file: &Path, text: &str) {
+    let mut command = Command::new("sh");
+    let write = "printf '%s' \"$2\" >\"$1\" && chmod +x \"$1\"";
+    let command = command.args(["-c", write, "sh"]).arg(file).arg(text);
+    let ended = command.status().expect("the shell runs");
+    assert!(ended.success(), "the file is written");
+}
+
+/// A built program of this checkout, as a script that becomes it.
+pub fn becomes(program: &str) -> String {
+    let program = root().join("target/bin").join(program);
+    format!("exec {}", program.display())
+}
