@@ -81,7 +81,7 @@ unaccepted number line (refused m l) e = cc
 
 zero-accepts : {Good : State → Type 0} {most : ℕ} (a : Answer State) → Placed Good most a → getD (checkReply a) 0 1 ≡ 0 → (s : State) × (a ≡ ok s)
 zero-accepts (ok s) p e = (s, refl)
-zero-accepts (refused number line) (place n l some few) e = absurd (omega arith)
+zero-accepts (refused number line) (place n l some few) e = absurd (omega (arith, some .0))
 
 pub agrees : (text : List ℕ) (n : ℕ) {reply : List ℕ} → reply ≡ checkReply (check text n) → getD reply 0 1 ≡ 0 → AgreeingLists text
 agrees text n r e = let a = zero-accepts (check text n) (check-placed text n) (rw r at e) in sound text n (a .0) (a .1)

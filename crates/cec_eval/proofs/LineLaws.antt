@@ -48,7 +48,7 @@ module _ (stream : List ℕ) (pattern : ℕ) where
       by-length : (b : Bool) → leb (length stream) streamBytes ≡ b → line ≤ highestLine
       by-length true t =
           few (evaluate stream pattern workingBytes) (evaluate-placed stream pattern workingBytes) (omega (arith, leb-true (length stream) streamBytes t)) number line (rw t at e)
-      by-length false t = few {Good = λ w. Unit {0}} {most = 0} (refused 1 0) (place 1 0 (omega arith) (omega arith)) (omega arith) number line (rw t at e)
+      by-length false t = few {Good = λ w. Unit {0}} {most = 0} (refused 1 0) (place 1 0 (omega arith, omega arith) (omega arith)) (omega arith) number line (rw t at e)
 
 -- ---- a word's line
 

@@ -62,7 +62,7 @@ module _ (stream : List ℕ) where
           line-few (readOne stream) (one-placed stream) (omega arith) number line (rw (not-too-long short) at e)
       by-length false t =
           let long : streamBytes < length stream = leb-false (length stream) streamBytes t in
-          line-few {Good = λ n. Unit {0}} {most = 0} (refused 1 0) (place 1 0 (omega arith) (omega arith)) (omega arith) number line (rw (too-long long) at e)
+          line-few {Good = λ n. Unit {0}} {most = 0} (refused 1 0) (place 1 0 (omega arith, omega arith) (omega arith)) (omega arith) number line (rw (too-long long) at e)
 
 -- ---- the line of each case
 

@@ -1,20 +1,19 @@
 -- A verdict within limits: what a report has digits for, and the report of each case.
 use Prim.Native.Nat.{ℕ, _≤_, _<_}
-use mathlib.Core.Path.{_≡_, refl, sym, ap}
-use mathlib.Core.Bool.{Bool, true, false}
+use mathlib.Core.Path.{_≡_, sym, ap}
 use mathlib.Core.List.{List}
 use native.Mathlib.Omega.{arith}
-use lib.Dec.{leb}
 use lib.ListN.{length}
-use borrow.Author.Tests.{leb-true, leb-false, lt-leb, le-leb}
+use borrow.Author.Tests.{lt-leb, le-leb}
 use Rattle.model.specs.Limits.{mostClauses, highestLine}
 use Rattle.model.specs.Answers.{Answer, guard}
 use Rattle.model.specs.Answers.Answer.{ok, refused}
 use Rattle.model.specs.Steps.{State}
 use Rattle.model.specs.Checker.{check, judge, reportOf}
 use Rattle.laws.specs.Answers.{ok-injective, refused-not-ok}
-use Rattle.laws.specs.Places.{Placed, Counts, check-placed}
+use Rattle.laws.specs.Places.{Placed, Counts}
 use Rattle.laws.specs.Places.Placed.{result, place}
+use Rattle.laws.specs.Printed.{judge-placed}
 use Rattle.frame.specs.Frames.{report}
 use Rattle.checker.specs.declared.Checked.{Checked}
 use Rattle.checker.specs.declared.Checked.the-variants.{Accepted, Refused}
@@ -56,12 +55,4 @@ module _ (bytes numbers : ℕ) (stream : List ℕ) where
 
   -- a stream that is not too long has few lines
   pub judge-fits : bytes < highestLine → (c : Checked) → checkedOf c ≡ countedOf (judge bytes numbers stream) → Fits c
-  judge-fits few c e = by-length (leb (length stream) bytes) refl
-    where
-      by-length : (b : Bool) → leb (length stream) bytes ≡ b → Fits c
-      by-length true t =
-          let short = leb-true (length stream) bytes t in
-          fit (check-placed stream numbers) (omega arith) (omega (arith, short)) c (rw (checked short) at e)
-      by-length false t =
-          let long : bytes < length stream = leb-false (length stream) bytes t in
-          fit {room = 0} {most = 0} (place 1 0 (omega arith) (omega arith)) (omega arith) (omega arith) c (rw (too-long long) at e)
+  judge-fits few c e = fit (judge-placed bytes numbers stream few) (omega arith) (omega arith) c e

@@ -1,12 +1,13 @@
 //! The command `cec` of the repository's root: the sentences of each command, and its exit status.
 
+mod cec;
 mod common;
 
 use std::fs::{self, File};
 use std::process::{Command, Stdio};
 
+use cec::{fails, folder, refuses, root, run, said, sample, says, Said, ACCEPTED};
 use cec_reference::sample::PROOF;
-use common::command::{fails, folder, refuses, root, run, said, sample, says, Said, ACCEPTED};
 use common::list_texts::linked;
 use common::proof_texts::{bench, proof_behind};
 use common::samples::{self, ADDER, GUARD_NEW, GUARD_OLD, GUARD_ONE_PATTERN, GUARD_RESYNTHESISED};

@@ -1,17 +1,20 @@
 //! The command `cec` and the programs that it runs: built on first use and where a source is newer,
 //! with what is being proved shown, found through links, and ended with it.
 
+mod cec;
 mod common;
 
+use std::env;
 use std::fs;
 use std::os::unix::fs::symlink;
 use std::os::unix::process::CommandExt;
 use std::path::{Path, PathBuf};
-use std::process::{Command, Stdio};
+use std::process::{self, Command, Stdio};
 use std::thread;
 use std::time::{Duration, Instant};
 
-use common::command::{command_of, fails, folder, root, run_of, said, sample, stand_ins, ACCEPTED};
+use cec::ACCEPTED;
+use cec::{command_of, fails, folder, put_stand_ins, root, run_of, said, sample, stand_ins};
 use common::samples::ADDER;
 
 const SENTENCE: &str = "accepted: both lists agree on every pattern (4 proof lines, 13 clauses)\n";
@@ -29,7 +32,7 @@ fn errors_of(root: &Path) -> String {
     errors
 }
 
-const FIRST: &str = "cec: cec_check is proved and built first, which takes minutes\n";
+const FIRST: &str = "cec: proved and built first, which takes minutes: cec_check\n";
 
 #[test]
 fn a_program_is_built_on_its_first_use() {
@@ -39,13 +42,16 @@ fn a_program_is_built_on_its_first_use() {
     assert_eq!(errors_of(&root), "");
     let root = stand_ins("no-build", &[("rt", "echo why\nexit 1")]);
     let said = run_of(&root, &root, &["check", &sample(ADDER)]);
-    fails(said, "why\ncec: cec_check could not be built\n");
+    fails(said, "why\ncec: not built: cec_check\n");
 }
 
 /// Code of any crate and a definition of `model` count; the program is built again once.
 #[test]
 fn a_program_that_is_older_than_a_source_is_built_again() {
-    let root = stand_ins("stale", &[("rt", &builder(""))]);
+    // Not in the repository, where `rt` would take the sources for its own.
+    let root = env::temp_dir().join(format!("cec-stale-{}", process::id()));
+    fs::create_dir(&root).expect("it is made");
+    put_stand_ins(&root, &[("rt", &builder(""))]);
     for folder in ["crates/frame/src", "crates/model/specs"] {
         fs::create_dir_all(root.join(folder)).expect("they are made");
     }
@@ -61,8 +67,7 @@ fn a_program_that_is_older_than_a_source_is_built_again() {
         // A file system need not tell two moments apart that are nearer than this.
         thread::sleep(Duration::from_millis(20));
         fs::write(root.join(source), "cec_check:\n").expect("it is written");
-        let message =
-            format!("cec: cec_check is older than {source}, and is proved and built again\n");
+        let message = format!("cec: proved and built again, since {source} is newer: cec_check\n");
         assert_eq!(errors_of(&root), message);
     }
     assert_eq!(errors_of(&root), "");
@@ -72,6 +77,7 @@ fn a_program_that_is_older_than_a_source_is_built_again() {
     fs::write(root.join("rt"), "#!/bin/sh\n").expect("it is written");
     assert!(errors_of(&root).contains("crates.txt"));
     assert_eq!(errors_of(&root), "");
+    fs::remove_dir_all(&root).expect("it is ours");
 }
 
 /// A stand-in that takes its time over two crates, as `rt` does.
@@ -109,7 +115,7 @@ fn a_build_on_a_terminal_has_one_line() {
     let command = command
         .args(["-qec", &words, "/dev/null"])
         .current_dir(&root);
-    let path = std::env::var("PATH").expect("there is a path");
+    let path = env::var("PATH").expect("there is a path");
     let command = command.env("PATH", format!("{}:{path}", root.display()));
     let (status, shown, _) = said(command.stdin(Stdio::null()));
     assert_eq!(status, Some(0), "{shown}");
@@ -193,7 +199,23 @@ fn a_link_to_the_command_finds_the_programs() {
     let mut command = Command::new("sh");
     let words = format!("again prove {gate} {wire}");
     let command = command.args(["-c", &words]).current_dir("/");
-    let path = std::env::var("PATH").expect("there is a path");
+    let path = env::var("PATH").expect("there is a path");
     let command = command.env("PATH", format!("{}:{path}", folder.display()));
     assert_eq!(said(command), (Some(0), SENTENCE.into(), String::new()));
+}
+
+/// All programs that a command runs are built at once.
+#[test]
+fn programs_are_built_together() {
+    let rt = "printf '%s ' \"$@\" >asked\nexit 1";
+    let root = stand_ins("together", &[("rt", rt)]);
+    let adder = sample(ADDER);
+    let said = run_of(&root, &root, &["prove", &adder, &adder]);
+    let programs = "cec_list cec_prove cec_check";
+    fails(
+        said,
+        &format!("takes minutes: {programs}\ncec: not built: {programs}\n"),
+    );
+    let asked = fs::read_to_string(root.join("asked")).expect("it is there");
+    assert_eq!(asked, format!("check {programs} "));
 }

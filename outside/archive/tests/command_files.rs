@@ -1,5 +1,6 @@
 //! The command `cec` and files: those that it cannot read, and where `-o` leaves evidence.
 
+mod cec;
 mod common;
 
 use std::fs::{self, File, Permissions};
@@ -7,9 +8,9 @@ use std::os::unix::fs::{symlink, PermissionsExt};
 use std::path::Path;
 use std::process::Command;
 
+use cec::{becomes, fails, folder, root, run, run_of, said, sample, says, stand_ins};
+use cec::{Said, ACCEPTED};
 use cec_reference::sample::{LISTS, PROOF};
-use common::command::{becomes, fails, folder, root, run, run_of, said, sample, says, stand_ins};
-use common::command::{Said, ACCEPTED};
 use common::proof_texts::bench;
 use common::samples::{self, ADDER};
 

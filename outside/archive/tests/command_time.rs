@@ -1,13 +1,14 @@
 //! How long the command `cec` takes, beside the programs that it runs. Alone in its file, so that no
 //! other test runs at the same time.
 
+mod cec;
 mod common;
 
 use std::path::Path;
 use std::process::{Command, Stdio};
 use std::time::{Duration, Instant};
 
-use common::command::{root, sample};
+use cec::{root, sample};
 use common::samples::{GUARD_NEW, GUARD_OLD};
 
 /// What a run may take on an idle machine.

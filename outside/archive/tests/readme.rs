@@ -2,6 +2,7 @@
 //! the definitions that it shows are those of the source, what it names exists, and the picture of
 //! the crates is true.
 
+mod cec;
 mod common;
 
 use std::fs;
@@ -9,7 +10,7 @@ use std::os::unix::fs::symlink;
 use std::path::{Path, PathBuf};
 use std::process::{Command, Stdio};
 
-use common::command::{folder, root};
+use cec::{folder, root};
 
 /// The gate runs this test, and is not run by it.
 const GATE: &str = "bash .ci/run";

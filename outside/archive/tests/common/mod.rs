@@ -7,7 +7,6 @@
 
 pub mod calls;
 pub mod checking;
-pub mod command;
 pub mod expected;
 pub mod extensions;
 pub mod garbage;

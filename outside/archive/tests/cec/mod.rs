@@ -1,12 +1,15 @@
 //! Runs of the command `cec` of the repository's root, and of a copy of it with stand-ins for the
 //! programs and for `rt`.
 
+// Each test uses a part of it.
+#![allow(dead_code)]
+
 use std::env;
 use std::fs;
 use std::path::{Path, PathBuf};
 use std::process::{Command, Stdio};
 
-use super::samples;
+use crate::common::samples;
 
 /// Exit status, standard output and standard error.
 pub type Said = (Option<i32>, String, String);
@@ -83,13 +86,18 @@ pub fn refuses(said: Said, sentence: &str) {
 /// A root of its own, with stand-ins for the programs and for `rt`.
 pub fn stand_ins(name: &str, scripts: &[(&str, &str)]) -> PathBuf {
     let root = folder(name);
+    put_stand_ins(&root, scripts);
+    root
+}
+
+/// The same in a folder that is there.
+pub fn put_stand_ins(root: &Path, scripts: &[(&str, &str)]) {
     fs::create_dir_all(root.join("target/bin")).expect("they are made");
     let text = fs::read_to_string(self::root().join("cec")).expect("it is read");
     make_executable(&root.join("cec"), &text);
     for (file, script) in scripts {
         make_executable(&root.join(file), &format!("#!/bin/sh\n{script}\n"));
     }
-    root
 }
 
 /// Another process writes the file. A file that this one has open for writing cannot be run, and a
