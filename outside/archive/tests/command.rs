@@ -4,6 +4,7 @@ mod cec;
 mod common;
 
 use std::fs::{self, File};
+use std::path::Path;
 use std::process::{Command, Stdio};
 
 use cec::{fails, folder, refuses, root, run, said, sample, says, Said, ACCEPTED};
@@ -393,16 +394,16 @@ fn a_sentence_that_is_not_written_is_no_success() {
     assert_eq!(ended.expect("the command runs").code(), Some(2));
 }
 
-/// Runs the command in a shell that allows a stack of so many KB.
-fn run_with_stack(folder: &std::path::Path, kilobytes: u32, words: &[&str]) -> Said {
-    let limit = format!("ulimit -s {kilobytes}; exec \"$0\" \"$@\"");
+/// Runs the command in a shell with a limit on the stack, as the words of `ulimit` say.
+fn run_with_stack(folder: &Path, limit: &str, words: &[&str]) -> Said {
+    let limited = format!("ulimit {limit} && exec \"$0\" \"$@\"");
     let mut command = Command::new("sh");
-    let command = command.args(["-c", &limit]).arg(root().join("cec"));
+    let command = command.args(["-c", &limited]).arg(root().join("cec"));
     said(command.args(words).current_dir(folder))
 }
 
-/// With the stack that the command asks for, a program takes the largest lists; with less there is a
-/// message, and no program runs.
+/// With the stack that a program needs it takes the largest lists, also where the shell allows it but
+/// gives less; with less there is a message and no verdict.
 #[test]
 fn a_stack_that_is_too_small_is_named() {
     let folder = folder("stack");
@@ -412,23 +413,26 @@ fn a_stack_that_is_too_small_is_named() {
     fs::write(folder.join("right"), right).expect("it is written");
     fs::write(folder.join("both"), &lists).expect("it is written");
     fs::write(folder.join("short"), bench(&PROOF)).expect("it is written");
-    let [gate, wire] = ["paper-gate", "paper-wire"].map(sample);
-    let commands: [(&str, u32, &[&str]); 5] = [
-        ("cec_check_large", 7_168, &["prove", "left", "right"]),
-        ("cec_check_large", 7_168, &["check", "both"]),
-        ("cec_prove", 1_024, &["prove", &gate, &wire]),
-        ("cec_check", 512, &["check", "short"]),
-        ("cec_eval", 256, &["eval", "left", "3"]),
+    let commands: [(&str, u32, u32, &[&str]); 5] = [
+        ("cec_check_large", 7_168, 5_000, &["prove", "left", "right"]),
+        ("cec_check_large", 7_168, 5_000, &["check", "both"]),
+        ("cec_prove", 1_024, 600, &["prove", "left", "right"]),
+        ("cec_check", 512, 130, &["check", "short"]),
+        ("cec_eval", 256, 70, &["eval", "left", "3"]),
     ];
-    for (program, needed, words) in commands {
-        let enough = run_with_stack(&folder, needed, words);
-        assert_eq!(enough, run(&folder, words), "{program}");
-        assert_eq!(enough.2, "", "{program}");
-        let allowed = needed - 1;
+    for (program, needed, few, words) in commands {
+        let wanted = run(&folder, words);
+        let soft = run_with_stack(&folder, "-S -s 100", words);
+        assert_eq!(soft, wanted, "{program}");
+        if program != "cec_prove" {
+            let enough = run_with_stack(&folder, &format!("-s {needed}"), words);
+            assert_eq!(enough, wanted, "{program}");
+        }
+        let (status, printed, errors) = run_with_stack(&folder, &format!("-s {few}"), words);
+        assert_eq!((status, printed.as_str()), (Some(2), ""), "{program}");
         let message = format!(
-            "cec: {program} needs a stack of {needed} KB; this shell allows {allowed} (ulimit -s)\n"
+            "cec: {program} needs a stack of {needed} KB; this shell allows {few} (ulimit -H -s)\n"
         );
-        let said = run_with_stack(&folder, allowed, words);
-        assert_eq!(said, (Some(2), String::new(), message));
+        assert!(errors.ends_with(&message), "{errors}");
     }
 }

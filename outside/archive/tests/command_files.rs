@@ -222,7 +222,10 @@ fn half_an_answer_is_no_verdict() {
         &["eval", &gate, "0"],
     ];
     for words in commands {
-        fails(run_of(&root, &root, words), "a program gave no answer");
+        fails(
+            run_of(&root, &root, words),
+            "gave no answer: its input or output failed\n",
+        );
     }
     let [checker, lister, prover] = ["cec_check", "cec_list", "cec_prove"].map(becomes);
     let prover = prover.trim_start_matches("exec ");
