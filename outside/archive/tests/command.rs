@@ -365,6 +365,11 @@ fn help_is_an_answer() {
         assert_eq!(answer(&[command, "--help"]), one);
         assert!(all.contains(&format!("cec {command} ")), "{all}");
     }
+    // Whoever has read enough is not told that the usage was bad.
+    let mut command = Command::new("sh");
+    let piped = "\"$0\" help eval 2>&1 | head -n 1";
+    let command = command.args(["-c", piped]).arg(root().join("cec"));
+    says(said(command), 0, "usage: cec eval LIST PATTERN [--frame]");
 }
 
 /// The version is that of the packages, and the limits are those of the programs.
@@ -392,6 +397,16 @@ fn a_sentence_that_is_not_written_is_no_success() {
     let command = command.args(["prove", &sample(ADDER), &sample(ADDER)]);
     let ended = command.stdout(full).stderr(Stdio::null()).status();
     assert_eq!(ended.expect("the command runs").code(), Some(2));
+    for words in ["--version", "help prove", "--help"] {
+        let full = File::options()
+            .write(true)
+            .open("/dev/full")
+            .expect("it is there");
+        let mut command = Command::new(root().join("cec"));
+        let command = command.args(words.split(' '));
+        let ended = command.stdout(full).stderr(Stdio::null()).status();
+        assert_eq!(ended.expect("the command runs").code(), Some(2), "{words}");
+    }
 }
 
 /// Runs the command in a shell with a limit on the stack, as the words of `ulimit` say.

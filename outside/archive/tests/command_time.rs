@@ -15,7 +15,7 @@ use common::samples::{GUARD_NEW, GUARD_OLD};
 const LIMIT: Duration = Duration::from_millis(8);
 
 /// On a machine that is slow to start programs, so many times what the programs alone take.
-const TIMES: u32 = 4;
+const TIMES: u32 = 5;
 
 const RUNS: usize = 61;
 
