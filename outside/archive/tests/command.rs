@@ -7,7 +7,7 @@ use std::fs::{self, File};
 use std::path::Path;
 use std::process::{Command, Stdio};
 
-use cec::{fails, folder, refuses, root, run, said, sample, says, Said, ACCEPTED};
+use cec::{command_of, fails, folder, refuses, root, run, said, sample, says, Said, ACCEPTED};
 use cec_reference::sample::PROOF;
 use common::list_texts::linked;
 use common::proof_texts::{bench, proof_behind};
@@ -342,6 +342,24 @@ fn bad_usage_shows_the_usage() {
         let message = format!("cec: {pattern}: a pattern has 1 to 16 hexadecimal digits\n");
         fails(run(&folder, &["eval", &adder, pattern]), &message);
     }
+}
+
+/// No variable of the environment enters a sentence, or keeps a program from being looked at.
+#[test]
+fn the_environment_says_nothing() {
+    let folder = folder("environment");
+    let [gate, wire] = ["paper-gate", "paper-wire"].map(sample);
+    let mut command = command_of(&root(), &folder, &["prove", &gate, &wire]);
+    let names = "by beyond newest copies work prover evidence frame words made printed report";
+    for name in names.split(' ') {
+        command.env(name, "nobody");
+    }
+    says(
+        said(&mut command),
+        0,
+        &format!("{ACCEPTED} (4 proof lines, 13 clauses)"),
+    );
+    assert_eq!(fs::read_dir(&folder).expect("it is there").count(), 0);
 }
 
 /// Help is an answer: on standard output, with status 0, and for each command about that.
