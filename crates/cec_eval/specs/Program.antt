@@ -2,14 +2,15 @@
 use Prim.Native.Nat.{ℕ, _+_}
 use mathlib.Core.Bool.{Bool, true, _&&_, cond}
 use mathlib.Core.List.{List, [], _∷_, _++_, map}
-use lib.Dec.{eqb, leb}
+use lib.Dec.{eqb}
 use lib.ListN.{length}
 use Rattle.model.specs.Limits.{mostInputs, mostGates, streamBytes}
-use Rattle.model.specs.Answers.{Answer, guard}
+use Rattle.model.specs.Answers.{Answer}
 use Rattle.model.specs.Answers.Answer.{ok, refused}
 use Rattle.model.specs.Lines.{isDigit, digitValue, lineFeed}
 use Rattle.model.specs.Frames.{number, hex, lineOf}
 use Rattle.model.specs.Evaluator.{evaluate}
+use Rattle.model.specs.Checker.{limited}
 use Rattle.frame.specs.Frames.{report}
 use Rattle.cec_eval.specs.declared.pattern.Pattern.{Pattern}
 use Rattle.cec_eval.specs.declared.pattern.Pattern.the-variants.{Bits, Wrong}
@@ -34,9 +35,9 @@ patternOf bytes = cond (eqb (length bytes) wordDigits && allDigits bytes) (Bits 
 abbrev pub workingBytes : ℕ
 workingBytes = 1 + mostInputs + mostGates
 
--- the word of a stream's list on a pattern; 1: 'over 65,536 bytes; line 0'
+-- the word of a stream's list on a pattern
 unfoldable pub evaluated : List ℕ → ℕ → Answer ℕ
-evaluated stream pattern = guard (leb (length stream) streamBytes) 1 0 (evaluate stream pattern workingBytes)
+evaluated stream pattern = limited streamBytes stream (evaluate stream pattern workingBytes)
 
 abbrev pub wordLine : ℕ → List ℕ
 wordLine word = hex wordDigits word ++ (lineFeed ∷ [])

@@ -1,21 +1,20 @@
 -- What the reading program prints.
 use Prim.Native.Nat.{ℕ, _≤_}
 use mathlib.Core.List.{List, [], _∷_}
-use lib.Dec.{leb}
-use lib.ListN.{length}
 use Rattle.model.specs.Limits.{mostInputs, mostGates, mostOutputs, streamBytes}
-use Rattle.model.specs.Answers.{Answer, guard}
+use Rattle.model.specs.Answers.{Answer}
 use Rattle.model.specs.Answers.Answer.{ok, refused}
 use Rattle.model.specs.Frames.{Frame, lineOf, headerKind}
 use Rattle.model.specs.Nets.{Netlist}
 use Rattle.model.specs.Lists.{readOne}
+use Rattle.model.specs.Checker.{limited}
 use Rattle.frame.specs.Frames.{report}
 use Rattle.netlist.specs.declared.Counts.{Counts}
 use Rattle.netlist.specs.Replies.{counts}
 
--- the list that a stream is; 1: 'over 65,536 bytes; line 0'
+-- the list that a stream is
 unfoldable pub listed : List ℕ → Answer Netlist
-listed stream = guard (leb (length stream) streamBytes) 1 0 (readOne stream)
+listed stream = limited streamBytes stream (readOne stream)
 
 -- the header that states these counts
 abbrev pub countsFrame : Counts → Frame

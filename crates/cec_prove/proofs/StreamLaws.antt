@@ -2,13 +2,11 @@
 -- report, which has digits for the line of every refusal that is due.
 use Prim.Native.Nat.{ℕ, _+_, _-_, _*_, _≤_, _<_}
 use mathlib.Core.Path.{_≡_, refl, sym, ap, _∙_}
-use mathlib.Core.Bool.{Bool, true, false}
 use mathlib.Core.List.{List, _++_}
 use native.Mathlib.Omega.{arith}
-use lib.Dec.{leb}
 use lib.ListN.{length, take, length-append, length-replicate, length-take}
 use lib.Seq.{take-at, take-length}
-use borrow.Author.Tests.{leb-true, leb-false, le-leb, lt-leb}
+use borrow.Author.Tests.{le-leb}
 use Rattle.model.specs.Limits.{streamBytes, highestLine, proofLineBytes}
 use Rattle.model.specs.Answers.{Answer, guard, bind, zeros, filled}
 use Rattle.model.specs.Answers.Answer.{ok, refused}
@@ -17,8 +15,8 @@ use Rattle.model.specs.Frames.{statedLine, lineOf, writeFrame, writtenFrame}
 use Rattle.model.specs.Engine.{lineBound, working, provable, Outcome, Engine}
 use Rattle.laws.specs.Answers.{ok-injective, refused-not-ok}
 use Rattle.laws.specs.Reading.{lists-good}
-use Rattle.laws.specs.Places.{Placed, provable-placed}
-use Rattle.laws.specs.Places.Placed.{result, place}
+use Rattle.laws.specs.Places.{provable-placed}
+use Rattle.laws.specs.Streams.{over-limit, within-limit, limited-placed, placed-line}
 use Rattle.frame.specs.Frames.{report}
 use Rattle.frame.proofs.WriteLaws.{report-length}
 use Rattle.engine.specs.declared.Proved.{Proved}
@@ -42,8 +40,8 @@ module _ (stream : List ℕ) where
   -- ---- the two ways to an answer
 
   pub too-long : streamBytes < length stream → dueTo stream ≡ refused 1 0
-  unfolding dueTo guard
-  too-long h = rw (lt-leb _ _ h)
+  unfolding dueTo
+  too-long h = over-limit streamBytes stream _ h
 
   -- the memory is enough for every list
   enough : (a : Answer Lists) → readLists stream ≡ a → provable stream proofBytes workingNumbers ≡ bind a sameForms
@@ -56,8 +54,8 @@ module _ (stream : List ℕ) where
   enough (refused number line) e = rw e
 
   not-too-long : length stream ≤ streamBytes → dueTo stream ≡ provable stream proofBytes workingNumbers
-  unfolding dueTo guard
-  not-too-long h = rw (le-leb _ _ h) (sym (enough (readLists stream) refl))
+  unfolding dueTo
+  not-too-long h = within-limit streamBytes stream _ h ∙ sym (enough (readLists stream) refl)
 
   pub answered : length stream ≤ streamBytes → (r : Proved) (out work : List ℕ) → length out ≡ proofBytes → Engine stream proofBytes workingNumbers (provedOf r) out work
       → Answered stream r out work
@@ -74,22 +72,12 @@ module _ (stream : List ℕ) where
 
   -- ---- what is printed
 
-  few : {Good : Lists → Type 0} {most : ℕ} {a : Answer Lists} → Placed Good most a → most ≤ highestLine → {number line : ℕ} → a ≡ refused number line → line ≤ highestLine
-  few (result p) h e = absurd (refused-not-ok (sym e))
-  few (place n l some less) h {number} {line} e = let z : l ≡ line = cc in omega arith
-
-  -- a stream that is not too long has few lines
+  -- a report has digits for the line of a refusal
   has-digits : (number line : ℕ) → dueTo stream ≡ refused number line → line ≤ highestLine
-  has-digits number line e = by-length (leb (length stream) streamBytes) refl
-    where
-      by-length : (b : Bool) → leb (length stream) streamBytes ≡ b → line ≤ highestLine
-      by-length true t =
-          let short = leb-true (length stream) streamBytes t in
-          few (provable-placed stream proofBytes workingNumbers) (omega (arith, short)) (sym (not-too-long short) ∙ e)
-      by-length false t =
-          let one = sym (too-long (leb-false (length stream) streamBytes t)) ∙ e in
-          let zero : 0 ≡ line = cc in
-          omega arith
+  unfolding dueTo
+  has-digits number line e =
+      let placed = rw (enough (readLists stream) refl) at (provable-placed stream proofBytes workingNumbers) in
+      placed-line (limited-placed streamBytes stream _ (λ short. omega arith) placed) e
 
   pub proof-printed : (n : ℕ) (p : Printed) {out work : List ℕ} → p .lists ≡ length stream → p .behind ≡ proofLineBytes * n → Answered stream (Lines n) out work → Prints stream p out work
   proof-printed n p {out} all long (l, proof, e, v, fits, o, w) =

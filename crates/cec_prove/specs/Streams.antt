@@ -2,13 +2,14 @@
 use Prim.Native.Nat.{ℕ, _+_, _*_, _≤_}
 use mathlib.Core.Path.{_≡_}
 use mathlib.Core.List.{List, _++_}
-use lib.Dec.{eqb, leb}
+use lib.Dec.{eqb}
 use lib.ListN.{length, take}
 use Rattle.model.specs.Limits.{mostInputs, mostGates, mostOutputs, streamBytes, linesPerGate, linesPerOutput, proofLineBytes, numbersPerNet}
 use Rattle.model.specs.Answers.{Answer, guard, bind, zeros, filled}
 use Rattle.model.specs.Answers.Answer.{ok, refused}
 use Rattle.model.specs.Lists.{Lists, readLists}
 use Rattle.model.specs.Frames.{lineOf}
+use Rattle.model.specs.Checker.{limited}
 use Rattle.model.specs.Forms.{differing}
 use Rattle.model.specs.Engine.{Proves}
 use Rattle.frame.specs.Frames.{report}
@@ -22,9 +23,9 @@ use Rattle.cec_prove.specs.declared.evidence.Printed.{Printed}
 abbrev pub sameForms : Lists → Answer Lists
 sameForms l = guard (eqb (differing (l .left) (l .right)) 0) 18 (differing (l .left) (l .right)) (ok l)
 
--- the lists of a stream, to which a proof is due, or the refusal; 1: 'over 65,536 bytes; line 0'
+-- the lists of a stream, to which a proof is due, or the refusal
 unfoldable pub dueTo : List ℕ → Answer Lists
-dueTo stream = guard (leb (length stream) streamBytes) 1 0 (bind (readLists stream) sameForms)
+dueTo stream = limited streamBytes stream (bind (readLists stream) sameForms)
 
 -- proof bytes and working numbers for the largest lists, so that neither 16 nor 17 is due
 abbrev pub proofBytes : ℕ

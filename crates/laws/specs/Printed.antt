@@ -6,7 +6,6 @@ use mathlib.Core.List.{List}
 use native.Mathlib.Omega.{arith}
 use lib.Dec.{leb}
 use lib.ListN.{length}
-use borrow.Author.Tests.{leb-true}
 use Rattle.model.specs.Limits.{clauseWidth, mostClauses, highestLine}
 use Rattle.model.specs.Answers.{Answer}
 use Rattle.model.specs.Answers.Answer.{ok, refused}
@@ -14,8 +13,9 @@ use Rattle.model.specs.Frames.{Frame, field, widths, loneLine}
 use Rattle.model.specs.Steps.{State}
 use Rattle.model.specs.Checker.{check, capacity, judge, reportOf, programWithin}
 use Rattle.laws.specs.Answers.{ok-injective, guard-ok}
-use Rattle.laws.specs.Places.{Placed, Counts, placed-guard, raised, check-placed}
+use Rattle.laws.specs.Places.{Placed, Counts, check-placed}
 use Rattle.laws.specs.Places.Placed.{result, place}
+use Rattle.laws.specs.Streams.{limited-placed}
 use Rattle.laws.specs.RoundTrip.{Proper, lone-written}
 use Rattle.laws.specs.Soundness.{AgreeingLists, sound}
 
@@ -28,12 +28,9 @@ report-proper (ok s) (result k) r h =
 report-proper (refused number line) (place n l some few) r h =
     record { known = refl; fit = (omega (arith, some .1), (omega arith, (omega arith, (omega arith, tt)))) }
 
--- a stream that is not too long has few lines
 pub judge-placed : (bytes numbers : ℕ) (stream : List ℕ) → bytes < highestLine → Placed (Counts (capacity numbers)) highestLine (judge bytes numbers stream)
 unfolding judge
-judge-placed bytes numbers stream few =
-    placed-guard _ 1 0 _ (omega arith, omega arith) (omega arith)
-    (λ t. raised (omega (arith, leb-true (length stream) bytes t)) (check-placed stream numbers))
+judge-placed bytes numbers stream few = limited-placed bytes stream _ (λ short. omega arith) (check-placed stream numbers)
 
 -- ---- what acceptance means
 

@@ -4,15 +4,15 @@ use mathlib.Core.Path.{_≡_, sym, ap}
 use mathlib.Core.List.{List}
 use native.Mathlib.Omega.{arith}
 use lib.ListN.{length}
-use borrow.Author.Tests.{lt-leb, le-leb}
 use Rattle.model.specs.Limits.{mostClauses, highestLine}
-use Rattle.model.specs.Answers.{Answer, guard}
+use Rattle.model.specs.Answers.{Answer}
 use Rattle.model.specs.Answers.Answer.{ok, refused}
 use Rattle.model.specs.Steps.{State}
 use Rattle.model.specs.Checker.{check, judge, reportOf}
 use Rattle.laws.specs.Answers.{ok-injective, refused-not-ok}
 use Rattle.laws.specs.Places.{Placed, Counts}
 use Rattle.laws.specs.Places.Placed.{result, place}
+use Rattle.laws.specs.Streams.{over-limit, within-limit}
 use Rattle.laws.specs.Printed.{judge-placed}
 use Rattle.frame.specs.Frames.{report}
 use Rattle.checker.specs.declared.Checked.{Checked}
@@ -46,13 +46,12 @@ fit (place number line some few) r h (Refused x) e = let l : x .line ≡ line = 
 
 module _ (bytes numbers : ℕ) (stream : List ℕ) where
   pub too-long : bytes < length stream → judge bytes numbers stream ≡ refused 1 0
-  unfolding judge guard
-  too-long h = rw (lt-leb _ _ h)
+  unfolding judge
+  too-long h = over-limit bytes stream _ h
 
   pub checked : length stream ≤ bytes → judge bytes numbers stream ≡ check stream numbers
-  unfolding judge guard
-  checked h = rw (le-leb _ _ h)
+  unfolding judge
+  checked h = within-limit bytes stream _ h
 
-  -- a stream that is not too long has few lines
   pub judge-fits : bytes < highestLine → (c : Checked) → checkedOf c ≡ countedOf (judge bytes numbers stream) → Fits c
   judge-fits few c e = fit (judge-placed bytes numbers stream few) (omega arith) (omega arith) c e
