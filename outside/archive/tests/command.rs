@@ -41,17 +41,19 @@ fn samples_are_proved_and_checked() {
     }
 }
 
+/// By the engine alone; `command_search.rs` has what the search makes of these.
 #[test]
 fn other_forms_are_18_with_the_output() {
     let folder = folder("forms");
     let old = sample(GUARD_OLD);
     for (other, output) in [(GUARD_ONE_PATTERN, 3), (GUARD_RESYNTHESISED, 1)] {
-        let said = run(&folder, &["prove", &old, &sample(other), "-o", "evidence"]);
+        let other = sample(other);
+        let words = ["prove", "--engine", &old, &other, "-o", "evidence"];
         let line = format!(
             "refused (18): output {output} of 12 is the first whose folded forms differ; the \
              lists may agree or not"
         );
-        says(said, 1, &line);
+        says(run(&folder, &words), 1, &line);
         assert!(!folder.join("evidence").exists());
     }
 }
@@ -104,7 +106,7 @@ fn frames_are_printed_if_asked_for() {
     let printed = "refused (18): output 3 of 12 is the first whose folded forms differ; the lists \
         may agree or not\n211200000300000000";
     let [old, altered] = [GUARD_OLD, GUARD_ONE_PATTERN].map(sample);
-    let said = run(&folder, &["prove", &old, &altered, "--frame"]);
+    let said = run(&folder, &["prove", &old, &altered, "--frame", "--engine"]);
     says(said, 1, printed);
 }
 
@@ -317,7 +319,7 @@ fn names_may_have_spaces_and_begin_with_a_dash() {
 fn bad_usage_shows_the_usage() {
     let folder = folder("usage");
     let adder = sample(ADDER);
-    let wrong: [&[&str]; 16] = [
+    let wrong: [&[&str]; 24] = [
         &[],
         &["prove"],
         &["prove", &adder],
@@ -325,6 +327,14 @@ fn bad_usage_shows_the_usage() {
         &["prove", &adder, &adder, "-o"],
         &["prove", &adder, &adder, "-o", ""],
         &["prove", &adder, &adder, "--frames"],
+        &["prove", &adder, &adder, "--seconds"],
+        &["prove", &adder, &adder, "--seconds", ""],
+        &["prove", &adder, &adder, "--seconds", "5", "--engine"],
+        &["prove", &adder, &adder, "--engines"],
+        &["check", &adder, "--engine"],
+        &["check", &adder, "--seconds", "5"],
+        &["list", &adder, "--engine"],
+        &["eval", &adder, "1", "--seconds", "5"],
         &["check"],
         &["check", &adder, &adder],
         &["check", &adder, "-o", "evidence"],
@@ -342,6 +352,11 @@ fn bad_usage_shows_the_usage() {
         let message = format!("cec: {pattern}: a pattern has 1 to 16 hexadecimal digits\n");
         fails(run(&folder, &["eval", &adder, pattern]), &message);
     }
+    for seconds in ["0", "01", "-1", "+1", "1.5", "5s", "A", "100000", " 5"] {
+        let message = format!("cec: {seconds}: --seconds takes a whole number from 1 to 99999\n");
+        let words = ["prove", &adder, &adder, "--seconds", seconds];
+        fails(run(&folder, &words), &message);
+    }
 }
 
 /// No variable of the environment enters a sentence, or keeps a program from being looked at.
@@ -350,7 +365,8 @@ fn the_environment_says_nothing() {
     let folder = folder("environment");
     let [gate, wire] = ["paper-gate", "paper-wire"].map(sample);
     let mut command = command_of(&root(), &folder, &["prove", &gate, &wire]);
-    let names = "by beyond newest copies work prover evidence frame words made printed report";
+    let names = "by beyond how newest copies work worker finder engine seconds evidence frame \
+        words made printed report";
     for name in names.split(' ') {
         command.env(name, "nobody");
     }
@@ -402,6 +418,7 @@ fn the_version_has_formats_and_limits() {
         "frames 01 to 04 and 11 to 13",
         "cec_check: up to 65,536 bytes and 4,096 clauses\n",
         "cec_check_large: up to 4,194,304 bytes and 65,535 clauses\n",
+        "the search: 20 seconds, ",
     ] {
         assert!(printed.contains(part), "{printed}");
     }

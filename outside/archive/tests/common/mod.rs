@@ -7,12 +7,15 @@
 
 pub mod calls;
 pub mod checking;
+pub mod drawing;
 pub mod expected;
 pub mod extensions;
 pub mod garbage;
 pub mod large_texts;
+pub mod layouts;
 pub mod list_texts;
 pub mod lists;
+pub mod mutated;
 pub mod pairs;
 pub mod patterns;
 pub mod places;
@@ -21,9 +24,11 @@ pub mod proof_texts;
 pub mod proofs;
 pub mod random;
 pub mod refutations;
+pub mod relaid;
 pub mod rewrites;
 pub mod samples;
 pub mod sizes;
+pub mod sums;
 pub mod tally;
 pub mod texts;
 pub mod trials;
