@@ -5,13 +5,15 @@
 //! evaluator every pattern. The same lists and options give the same answer on every machine:
 //! effort is counted in conflicts and turns, and time only ends the search as a whole.
 //!
+//! - `gate`, `miter`, `proof`: variables, gates, and clauses with their derivations;
 //! - `simulation`: what each net is on the patterns tried; `candidates`: nets alike on all of them;
 //! - `sweep`: nets proved equal from the inputs to the outputs, each by `equality` in `windows`;
 //! - `search`, `order`, `learning`: conflict-driven search; `derivation`: what it learns as resolves
 //!   within the width;
-//! - `xors`: XOR trees in another order;
-//! - `gate`, `miter`, `proof`: clauses with their derivations; `trim`: the lines of what is needed;
-//! - `turns`: sweeps until a proof is short enough.
+//! - `xors`: XOR trees in another order; `adders`, `plans`, `words`: how lists add up, `rotation`,
+//!   `sums`: sums in another order; `halves`: by what both are split;
+//! - `trim`: the lines of what the last clause rests on; `turns`: sweeps until a proof is short
+//!   enough; `random`: numbers for patterns and decisions.
 
 #![forbid(unsafe_code)]
 

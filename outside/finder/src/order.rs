@@ -103,3 +103,23 @@ impl Order {
         self.put(place, v);
     }
 }
+
+#[cfg(test)]
+mod tests {
+    use super::*;
+
+    #[test]
+    fn the_most_active_comes_first() {
+        let mut order = Order::default();
+        for activity in [0.01, 0.04, 0.02, 0.03] {
+            order.add(activity);
+        }
+        order.bump(2);
+        order.age();
+        order.bump(0);
+        assert_eq!([(); 3].map(|()| order.pop()), [Some(0), Some(2), Some(1)]);
+        order.insert(2);
+        order.insert(2);
+        assert_eq!([(); 3].map(|()| order.pop()), [Some(2), Some(3), None]);
+    }
+}

@@ -344,3 +344,68 @@ fn luby(k: u64) -> u64 {
         luby(k + 1 - size / 2)
     }
 }
+
+#[cfg(test)]
+mod tests {
+    use super::*;
+    use crate::gate::Gate;
+    use crate::proof::WIDTH;
+
+    /// A proof with clauses over so many variables, and their ids.
+    fn given(variables: usize, clauses: &[Vec<Lit>]) -> (Proof, Vec<Id>) {
+        let mut proof = Proof::default();
+        for _ in 0..variables {
+            proof.give_variable(Gate::Leaf);
+        }
+        let ids = clauses.iter().map(|clause| proof.give(clause)).collect();
+        proof.end_miter();
+        (proof, ids)
+    }
+
+    #[test]
+    fn targets_are_derived_or_have_a_model() {
+        let [a, b, c] = [1, 2, 3].map(Lit::of);
+        let (mut proof, ids) = given(4, &[vec![!a, b], vec![!b, c]]);
+        let mut search = Search::new(&mut proof, &ids, 0, None);
+        assert!(matches!(search.solve(&[!c, a], 10), Outcome::Model));
+        assert_eq!(
+            [1, 3].map(|v| search.value_of(v)),
+            [Some(false), Some(true)]
+        );
+        let Outcome::Proved(id) = search.solve(&[!a, c], 10) else {
+            panic!("a implies c");
+        };
+        assert_eq!(proof.clause(id), [!a, c]);
+    }
+
+    /// Six pigeons have no place in five holes: learned clauses get wide, and are kept within the
+    /// width by extension variables.
+    #[test]
+    fn wide_clauses_are_abbreviated() {
+        let (pigeons, holes) = (6, 5);
+        let sits = |pigeon: usize, hole: usize| Lit::of(1 + pigeon * holes + hole);
+        let mut clauses: Vec<Vec<Lit>> = vec![];
+        for pigeon in 0..pigeons {
+            clauses.push((0..holes).map(|hole| sits(pigeon, hole)).collect());
+            for (other, hole) in (0..pigeon).flat_map(|p| (0..holes).map(move |h| (p, h))) {
+                clauses.push(vec![!sits(pigeon, hole), !sits(other, hole)]);
+            }
+        }
+        let (mut proof, ids) = given(1 + pigeons * holes, &clauses);
+        let mut search = Search::new(&mut proof, &ids, 0, None);
+        let Outcome::Proved(id) = search.solve(&[], 10_000) else {
+            panic!("there is no place");
+        };
+        assert!(proof.clause(id).is_empty());
+        assert!(
+            proof.gates().len() > proof.given_variables(),
+            "an extension"
+        );
+        assert!((0..proof.clause_count()).all(|id| proof.clause(id).len() <= WIDTH));
+    }
+
+    #[test]
+    fn restarts_follow_luby() {
+        assert_eq!([1, 2, 3, 4, 5, 6, 7, 8].map(luby), [1, 1, 2, 1, 1, 2, 4, 1]);
+    }
+}

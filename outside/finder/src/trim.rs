@@ -216,3 +216,31 @@ fn needed(proof: &Proof, last: Id) -> (Vec<bool>, Vec<bool>) {
     }
     (clauses, variables)
 }
+
+#[cfg(test)]
+mod tests {
+    use super::*;
+
+    /// Clauses and variables that the last clause does not rest on leave no number behind.
+    #[test]
+    fn what_is_not_needed_is_left_out() {
+        let mut proof = Proof::default();
+        for _ in 0..3 {
+            proof.give_variable(Gate::Leaf);
+        }
+        let [a, b] = [1, 2].map(Lit::of);
+        let [both, not_a, not_b] = [vec![a, b], vec![!a], vec![!b]].map(|c| proof.give(&c));
+        proof.end_miter();
+        proof.extend(Gate::Xor(a, b));
+        let joined = proof.extend(Gate::And(!a, !b));
+        let unused = proof.chain(both, &[(not_a, a)]);
+        let definition: Vec<Id> = proof.definition(joined.var()).collect();
+        // (joined, a, b) with (not a) is not needed either.
+        let forced = proof.chain(definition[2], &[(not_a, a)]);
+        assert!(unused.is_some() && forced.is_some());
+        let last = proof.chain(both, &[(not_a, a), (not_b, b)]);
+        let lines = trim(&proof, last.expect("narrow"));
+        assert_eq!(lines.text, "11000100020001\n11000400030002\n");
+        assert_eq!((lines.count, lines.clauses, lines.variables), (2, 5, 3));
+    }
+}

@@ -313,13 +313,27 @@ impl Adding {
     }
 }
 
+/// The inputs of sums that a search alone proves in a second.
+const MOST_SEARCHED: usize = 8;
+
 /// Two lists for one sum, and what they are.
 pub struct Pair {
     pub about: String,
     pub lists: [List; 2],
+    sum: Sum,
+    right: Order,
+    is_mixed: bool,
 }
 
 impl Pair {
+    /// Whether it may be left open: carries by columns or in both writings fit no adder, so that only
+    /// a search is left, and 32 bits counted in opposite order take more clauses than have numbers.
+    pub fn may_be_open(&self) -> bool {
+        let is_searched = self.right == Order::Columns || self.is_mixed;
+        let is_large = self.sum == Sum::Ones(32) && self.right == Order::Backward;
+        is_large || is_searched && self.sum.inputs() > MOST_SEARCHED
+    }
+
     pub fn text(&self) -> Vec<u8> {
         self.lists.each_ref().map(List::text).concat()
     }
@@ -328,14 +342,14 @@ impl Pair {
 /// A sum in two orders, with the carry's two writings on the two sides where they are to be mixed.
 pub fn pair(sum: Sum, orders: [Order; 2], carries: [Carry; 2]) -> Pair {
     let [left, right] = orders;
-    let mixed = if carries[0] == carries[1] {
-        ""
-    } else {
-        ", carries mixed"
-    };
+    let is_mixed = carries[0] != carries[1];
+    let mixed = if is_mixed { ", carries mixed" } else { "" };
     Pair {
         about: format!("{sum}: {left}, {right}{mixed}"),
         lists: [0, 1].map(|side| sum.list(orders[side], carries[side])),
+        sum,
+        right,
+        is_mixed,
     }
 }
 
