@@ -33,13 +33,37 @@ pub(crate) struct Cells {
     by_sum: HashMap<Lit, Vec<Lit>>,
 }
 
+/// Two half adders one behind the other, with an XOR of their carries, are a full adder, or places
+/// of two adders. No gate says which: the lists are read in each way.
+#[derive(Clone, Copy)]
+pub(crate) enum Reading {
+    /// Places of two adders, as in a counter.
+    Apart,
+    /// A full adder, if at most one of its bits is a carry.
+    Joined,
+    /// A full adder, as where words' highest bits are added.
+    AllJoined,
+}
+
+impl Reading {
+    pub(crate) const ALL: [Self; 3] = [Self::Apart, Self::Joined, Self::AllJoined];
+
+    /// Fewer of three bits may be carries, for these to be a full adder.
+    fn carries(self) -> usize {
+        match self {
+            Self::Apart => 0,
+            Self::Joined => 2,
+            Self::AllJoined => 4,
+        }
+    }
+}
+
 /// Gates between a cell's bits and its sum or carry, at most.
 const MOST_GATES: usize = 12;
 
 impl Sweep<'_> {
-    /// Finds the cells of both lists. Two half adders one behind the other with an XOR of their
-    /// carries are a full adder, or places of two adders: both readings may be asked for.
-    pub(crate) fn find_cells(&self, joins_halves: bool) -> Cells {
+    /// Finds the cells of both lists, in this reading.
+    pub(crate) fn find_cells(&self, reading: Reading) -> Cells {
         let mut cells = Cells::default();
         let first_right = self.miter.first_right;
         for list in [1..first_right, first_right..self.miter.differences[0]] {
@@ -51,13 +75,12 @@ impl Sweep<'_> {
             for v in list.filter(|&v| v > self.miter.inputs) {
                 let summands = self.summands(Lit::of(v));
                 for (bits, sum) in summands.iter().flat_map(|bits| signed(bits, v)) {
-                    for carry in self.carries(&bits, sum, &nets, joins_halves) {
-                        let cell = Cell {
-                            bits: bits.clone(),
-                            sum,
-                        };
-                        cells.by_carry.entry(carry).or_insert(cell);
+                    let is_carry = |l: &&Lit| cells.by_carry.contains_key(l);
+                    let joins = bits.iter().filter(is_carry).count() < reading.carries();
+                    for carry in self.carries(&bits, sum, &nets, joins) {
+                        let bits = bits.clone();
                         cells.by_sum.entry(sum).or_insert(bits.clone());
+                        cells.by_carry.entry(carry).or_insert(Cell { bits, sum });
                     }
                 }
             }
@@ -65,31 +88,28 @@ impl Sweep<'_> {
         cells
     }
 
-    /// The nets among these that are the carry of some bits, and made of them.
+    /// The nets among these that are the carry of some bits, and made of them; whether an XOR may be
+    /// the carry of three.
     fn carries(
         &self,
         bits: &[Lit],
         sum: Lit,
         nets: &HashMap<u64, Vec<Var>>,
-        joins_halves: bool,
+        joins: bool,
     ) -> Vec<Lit> {
         let simulation = &self.simulation;
         let (signature, turned) = simulation.carry_signature(bits);
         // Where a bit never changes, or two are never both 1, the carry may be a bit or the sum; and
         // where two of three bits are never both 1, the third makes a half adder of them.
-        let is_bit = bits
-            .iter()
-            .chain([&sum])
-            .any(|l| simulation.signature(l.var()).0 == signature);
-        let never =
-            bits.len() == 3 && simulation.carry_signature(&bits[..2]) == simulation.signature(0);
-        if is_bit || never {
+        let known = |l: &Lit| simulation.signature(l.var()).0 == signature;
+        let never = || simulation.carry_signature(&bits[..2]) == simulation.signature(0);
+        if bits.iter().chain([&sum]).any(known) || bits.len() == 3 && never() {
             return vec![];
         }
         let last = bits.iter().map(|l| l.var()).max().unwrap_or(0);
         let fits = |k: &Var| {
             let is_joined = bits.len() == 3 && self.plain_xor(Lit::of(*k)).is_some();
-            *k > last && (joins_halves || !is_joined) && self.cone(Lit::of(*k), bits).is_some()
+            *k > last && (joins || !is_joined) && self.cone(Lit::of(*k), bits).is_some()
         };
         let alike = nets.get(&signature).into_iter().flatten().copied();
         let sign = |k: Var| Lit::of(k) ^ (turned != simulation.signature(k).1);

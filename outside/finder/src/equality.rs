@@ -160,16 +160,17 @@ impl Sweep<'_> {
         clauses: &[Id],
         targets: &[Vec<Lit>],
     ) -> Option<Vec<Id>> {
-        let mut search = Search::new(&mut self.proof, clauses, 0, None);
+        let mut search = Search::new(&mut self.proof, clauses, 0, self.deadline);
         let mut found = vec![];
         for target in targets {
             let Outcome::Proved(id) = search.solve(target, STEP_CONFLICTS) else {
-                return None;
+                break;
             };
             search.keep(id);
             found.push(id);
         }
-        Some(found)
+        self.conflicts += search.conflicts;
+        (found.len() == targets.len()).then_some(found)
     }
 
     /// Searches for a clause again, with other first decisions and out of only what it rested on:

@@ -4,11 +4,11 @@
 //! adders of extension variables where a tree has no such sum, and each node with bits of both
 //! halves costs a rotation or three. Search has to find the relation of the carries by itself, and
 //! needs clauses whose number grows exponentially: for the ones among 16 bits, counted in opposite
-//! order, it finds no proof with fewer than 65,535; by rotations it has 17,000.
+//! order, a proof of 131,578 clauses, twice as many as have numbers. By rotations it has 17,901.
 
 use std::rc::Rc;
 
-use crate::adders::Cells;
+use crate::adders::{Cells, Reading};
 use crate::gate::{Lit, Var};
 use crate::halves::best_half;
 use crate::plans::Plan;
@@ -33,16 +33,15 @@ impl Sweep<'_> {
         if r.var() == 0 {
             return None;
         }
-        let cells = self.cells.take();
-        let cells =
-            cells.unwrap_or_else(|| Rc::new([false, true].map(|joins| self.find_cells(joins))));
+        let found = || Rc::new(Reading::ALL.map(|reading| self.find_cells(reading)));
+        let cells = self.cells.clone().unwrap_or_else(found);
         self.cells = Some(cells.clone());
         let signed = |u: Var| Lit::of(u) ^ (self.nets[u].stands == !r);
         let nets = (r.var()..self.nets.len()).map(signed);
         let same: Vec<Lit> = nets.filter(|&u| self.standing(u) == r).collect();
-        for (x, leaves) in self.plans_of(Lit::of(v), &cells) {
+        for (x, leaves) in self.plans_of(Lit::of(v), &*cells) {
             for &u in &same {
-                for (y, of_y) in self.plans_of(u, &cells) {
+                for (y, of_y) in self.plans_of(u, &*cells) {
                     if leaves != of_y || leaves.len() < LEAST_LEAVES {
                         continue;
                     }
@@ -56,7 +55,7 @@ impl Sweep<'_> {
     }
 
     /// How a bit is added up and which bits those are, in each reading of the lists' cells.
-    fn plans_of(&self, l: Lit, cells: &[Cells; 2]) -> Vec<(Plan, Vec<(i32, Lit)>)> {
+    fn plans_of(&self, l: Lit, cells: &[Cells]) -> Vec<(Plan, Vec<(i32, Lit)>)> {
         cells
             .iter()
             .filter_map(|cells| self.plan_of(l, cells))

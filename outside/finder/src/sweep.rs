@@ -56,7 +56,7 @@ pub struct Sweep<'w> {
     pub(crate) simulation: Simulation,
     candidates: Candidates,
     pub(crate) xors: HashMap<Var, Option<XorOf>>,
-    pub(crate) cells: Option<Rc<[Cells; 2]>>,
+    pub(crate) cells: Option<Rc<[Cells; 3]>>,
     /// Short clauses learned on the way to equalities, over nets that stand for themselves.
     pub(crate) learned: Vec<Id>,
     pub(crate) seed: u64,

@@ -322,16 +322,14 @@ pub struct Pair {
     pub lists: [List; 2],
     sum: Sum,
     right: Order,
-    is_mixed: bool,
 }
 
 impl Pair {
-    /// Whether it may be left open: carries by columns or in both writings fit no adder, so that only
-    /// a search is left, and 32 bits counted in opposite order take more clauses than have numbers.
+    /// Whether it may be left open: columns have no ripple adder below the last, so that only a search
+    /// is left, and 32 bits counted in opposite order take more clauses than have numbers.
     pub fn may_be_open(&self) -> bool {
-        let is_searched = self.right == Order::Columns || self.is_mixed;
-        let is_large = self.sum == Sum::Ones(32) && self.right == Order::Backward;
-        is_large || is_searched && self.sum.inputs() > MOST_SEARCHED
+        let is_searched = self.right == Order::Columns && self.sum.inputs() > MOST_SEARCHED;
+        is_searched || self.right == Order::Backward && self.sum == Sum::Ones(32)
     }
 
     pub fn text(&self) -> Vec<u8> {
@@ -342,14 +340,16 @@ impl Pair {
 /// A sum in two orders, with the carry's two writings on the two sides where they are to be mixed.
 pub fn pair(sum: Sum, orders: [Order; 2], carries: [Carry; 2]) -> Pair {
     let [left, right] = orders;
-    let is_mixed = carries[0] != carries[1];
-    let mixed = if is_mixed { ", carries mixed" } else { "" };
+    let mixed = if carries[0] == carries[1] {
+        ""
+    } else {
+        ", carries mixed"
+    };
     Pair {
         about: format!("{sum}: {left}, {right}{mixed}"),
         lists: [0, 1].map(|side| sum.list(orders[side], carries[side])),
         sum,
         right,
-        is_mixed,
     }
 }
 
