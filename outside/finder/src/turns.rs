@@ -1,9 +1,9 @@
 //! Turns: a sweep with one seed after the other, until a proof is within the limits that the
 //! options aim for.
 //!
-//! The first proof is mostly short enough and then the last one. Others are up to a third shorter
-//! or longer, so a proof that is beyond the limits by little is worth more turns, and one that is
-//! far beyond them is not.
+//! The first proof is mostly within them, and then the last one. Proofs of other turns are a few
+//! hundredths shorter or longer, so one that is beyond the limits by little is worth more turns, and
+//! one that is far beyond them is not.
 
 use std::time::{Duration, Instant};
 
@@ -18,7 +18,7 @@ const MOST_TURNS: u64 = 8;
 const MOST_CONFLICTS: u64 = 100_000;
 
 /// How far beyond the limits a proof may be, in tenths, for another turn to be worth it.
-const NEAR: usize = 16;
+const NEAR: usize = 11;
 
 /// What no proof may have more of: clauses and variables have numbers of 16 bits.
 const MOST_CLAUSES: usize = 65_535;
