@@ -8,6 +8,7 @@ use std::collections::{HashMap, HashSet};
 
 use crate::gate::{Gate, Lit, Var};
 use crate::proof::Id;
+use crate::simulation::Signature;
 use crate::sweep::Sweep;
 
 /// A half or full adder: its carry is 1 where two of its bits are.
@@ -48,12 +49,12 @@ pub(crate) enum Reading {
 impl Reading {
     pub(crate) const ALL: [Self; 3] = [Self::Apart, Self::Joined, Self::AllJoined];
 
-    /// Fewer of three bits may be carries, for these to be a full adder.
-    fn carries(self) -> usize {
+    /// Whether three bits, of which so many are carries, are those of a full adder.
+    fn joins(self, carries: usize) -> bool {
         match self {
-            Self::Apart => 0,
-            Self::Joined => 2,
-            Self::AllJoined => 4,
+            Self::Apart => false,
+            Self::Joined => carries <= 1,
+            Self::AllJoined => true,
         }
     }
 }
@@ -67,16 +68,16 @@ impl Sweep<'_> {
         let mut cells = Cells::default();
         let first_right = self.miter.first_right;
         for list in [1..first_right, first_right..self.miter.differences[0]] {
-            let mut nets: HashMap<u64, Vec<Var>> = HashMap::new();
+            let mut nets: HashMap<u64, Vec<Lit>> = HashMap::new();
             for v in list.clone() {
-                let (signature, _) = self.simulation.signature(v);
-                nets.entry(signature).or_default().push(v);
+                let Signature { hash, turned, .. } = self.simulation.signature(v);
+                nets.entry(hash).or_default().push(Lit::of(v) ^ turned);
             }
             for v in list.filter(|&v| v > self.miter.inputs) {
                 let summands = self.summands(Lit::of(v));
                 for (bits, sum) in summands.iter().flat_map(|bits| signed(bits, v)) {
                     let is_carry = |l: &&Lit| cells.by_carry.contains_key(l);
-                    let joins = bits.iter().filter(is_carry).count() < reading.carries();
+                    let joins = reading.joins(bits.iter().filter(is_carry).count());
                     for carry in self.carries(&bits, sum, &nets, joins) {
                         let bits = bits.clone();
                         cells.by_sum.entry(sum).or_insert(bits.clone());
@@ -94,26 +95,25 @@ impl Sweep<'_> {
         &self,
         bits: &[Lit],
         sum: Lit,
-        nets: &HashMap<u64, Vec<Var>>,
+        nets: &HashMap<u64, Vec<Lit>>,
         joins: bool,
     ) -> Vec<Lit> {
         let simulation = &self.simulation;
-        let (signature, turned) = simulation.carry_signature(bits);
+        let Signature { hash, turned, .. } = simulation.carry_signature(bits);
         // Where a bit never changes, or two are never both 1, the carry may be a bit or the sum; and
         // where two of three bits are never both 1, the third makes a half adder of them.
-        let known = |l: &Lit| simulation.signature(l.var()).0 == signature;
+        let known = |l: &Lit| simulation.signature(l.var()).hash == hash;
         let never = || simulation.carry_signature(&bits[..2]) == simulation.signature(0);
         if bits.iter().chain([&sum]).any(known) || bits.len() == 3 && never() {
             return vec![];
         }
         let last = bits.iter().map(|l| l.var()).max().unwrap_or(0);
-        let fits = |k: &Var| {
-            let is_joined = bits.len() == 3 && self.plain_xor(Lit::of(*k)).is_some();
-            *k > last && (joins || !is_joined) && self.cone(Lit::of(*k), bits).is_some()
+        let fits = |k: &Lit| {
+            let is_joined = bits.len() == 3 && self.plain_xor(*k).is_some();
+            k.var() > last && (joins || !is_joined) && self.cone(*k, bits).is_some()
         };
-        let alike = nets.get(&signature).into_iter().flatten().copied();
-        let sign = |k: Var| Lit::of(k) ^ (turned != simulation.signature(k).1);
-        alike.filter(fits).map(sign).collect()
+        let alike = nets.get(&hash).into_iter().flatten().copied();
+        alike.filter(fits).map(|k| k ^ turned).collect()
     }
 
     /// What a net is the XOR of, three at first, in the list as it stands.

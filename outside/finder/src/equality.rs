@@ -33,6 +33,10 @@ const ROUTE_DEPTH: usize = 4;
 const TRIES: u64 = 64;
 const PATIENCE: u64 = 8;
 
+/// Lines of a clause that is short enough, and of one that is worth more tries.
+const SHORT: usize = 7;
+const LONG: usize = 66;
+
 impl Sweep<'_> {
     /// Whether v is r, which stands for itself: clauses (not v, r) and (v, not r), of which one is
     /// no clause where r is a constant.
@@ -160,6 +164,9 @@ impl Sweep<'_> {
         clauses: &[Id],
         targets: &[Vec<Lit>],
     ) -> Option<Vec<Id>> {
+        if self.is_over() {
+            return None;
+        }
         let mut search = Search::new(&mut self.proof, clauses, 0, self.deadline);
         let mut found = vec![];
         for target in targets {
@@ -174,7 +181,8 @@ impl Sweep<'_> {
     }
 
     /// Searches for a clause again, with other first decisions and out of only what it rested on:
-    /// the derivation that adds least to the proof. Found by `spent` conflicts.
+    /// the derivation that adds least to the proof. One that took many conflicts is tried less. This
+    /// takes two thirds of all time, for an eighth fewer lines on layouts.
     fn shorten(&mut self, id: Id, clauses: &[Id], target: &[Lit], spent: u64) -> Id {
         let floor = clauses.iter().max().map_or(0, |&last| last + 1);
         let (mut best, mut cost) = (id, self.proof.cost(&[id]));
@@ -182,12 +190,12 @@ impl Sweep<'_> {
         let mut since = 0;
         for seed in 1..=TRIES {
             let patience = match spent {
-                0..=500 if cost >= 66 => 3 * PATIENCE,
+                0..=500 if cost >= LONG => 3 * PATIENCE,
                 0..=1000 => PATIENCE,
                 _ => PATIENCE / 2,
             };
             since += 1;
-            if cost < 7 || id < floor || since > patience || self.is_over() {
+            if cost < SHORT || id < floor || since > patience || self.is_over() {
                 break;
             }
             self.proof.hide_from(floor);

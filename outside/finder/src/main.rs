@@ -24,6 +24,9 @@ Exit status: 0 both lists and the proof are printed; 1 a sentence is printed: 'd
 found', or the report frame of lists that are refused; 2 bad usage, or a stream that failed.
 ";
 
+/// A report frame has 18 digits and its LF.
+const REPORT_BYTES: usize = 19;
+
 /// No proof: a pattern, nothing, or a refusal.
 const NO_PROOF: u8 = 1;
 /// Nothing that was printed can be relied on.
@@ -117,7 +120,7 @@ fn report(Refusal { number, line }: Refusal) -> Vec<u8> {
         steps: 0,
         clauses: 0,
     };
-    let mut printed = vec![0; 19];
+    let mut printed = vec![0; REPORT_BYTES];
     write_frame(&frame, &mut printed).expect("a text that was read has few lines");
     printed
 }

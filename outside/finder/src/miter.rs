@@ -1,7 +1,7 @@
 //! The miter of two lists as a proof begins with it: variables and clauses in the order of document
 //! 01, 'The miter's clauses'.
 
-use cec_reference::{Literal, Netlist, Operation};
+use cec_reference::{miter_gates, miter_outputs, Literal, Netlist, Operation};
 
 use crate::gate::{Gate, Lit, Var};
 use crate::proof::{Id, Proof};
@@ -29,21 +29,22 @@ impl Miter {
         for _ in 0..=left.inputs() {
             proof.give_variable(Gate::Leaf);
         }
-        give_gates(&mut proof, left, 0);
-        let (shift, first_right) = (left.gates().len(), proof.gates().len());
-        give_gates(&mut proof, right, shift);
-        let outputs = left.outputs().iter().zip(right.outputs());
-        let differences: Vec<Var> = outputs
-            .map(|(&x, &y)| {
-                let (x, y) = (beside(left.inputs(), 0, x), beside(left.inputs(), shift, y));
-                proof.give_variable(Gate::Xor(x, y))
-            })
+        for gate in miter_gates(left, right) {
+            let [x, y] = gate.operands.map(lit);
+            proof.give_variable(match gate.operation {
+                Operation::And => Gate::And(x, y),
+                Operation::Xor => Gate::Xor(x, y),
+            });
+        }
+        let differences: Vec<Var> = miter_outputs(left, right)
+            .map(|shown| shown.map(lit))
+            .map(|[x, y]| proof.give_variable(Gate::Xor(x, y)))
             .collect();
         let (joins, claim) = join(&mut proof, &differences);
         proof.end_miter();
         let miter = Self {
             inputs: left.inputs(),
-            first_right,
+            first_right: left.nets(),
             differences,
             joins,
             claim,
@@ -52,22 +53,9 @@ impl Miter {
     }
 }
 
-/// The gates of a list whose own variables stand `shift` higher than its nets.
-fn give_gates(proof: &mut Proof, list: &Netlist, shift: usize) {
-    for gate in list.gates() {
-        let [x, y] = gate.operands.map(|l| beside(list.inputs(), shift, l));
-        proof.give_variable(match gate.operation {
-            Operation::And => Gate::And(x, y),
-            Operation::Xor => Gate::Xor(x, y),
-        });
-    }
-}
-
-/// A list's literal over the miter's variables: the constant and the inputs are shared.
-fn beside(inputs: usize, shift: usize, literal: Literal) -> Lit {
-    let net = literal.net();
-    let variable = if net > inputs { net + shift } else { net };
-    Lit::of(variable) ^ literal.is_complemented()
+/// A literal of the miter, whose numbers have 16 bits.
+fn lit(literal: Literal) -> Lit {
+    Lit::of(literal.net()) ^ literal.is_complemented()
 }
 
 /// Each w is the one before or the next difference; the last is claimed.

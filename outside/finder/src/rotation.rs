@@ -121,13 +121,9 @@ impl Sweep<'_> {
         let (m, x, y) = (first.sum[at], first.carry[at], second.carry[at]);
         let low = self.full_adder(&[a, b, c]);
         let high = self.full_adder(&[low.sum, x, y]);
-        let adders = [
-            &first.clauses[at],
-            &second.clauses[at],
-            &low.defined,
-            &high.defined,
-        ];
-        let mut given: Vec<Id> = adders.into_iter().flatten().copied().collect();
+        let adders = [first, second].map(|adder| &adder.clauses[at]);
+        let cells = adders.into_iter().chain([&low.defined, &high.defined]);
+        let mut given: Vec<Id> = cells.flatten().copied().collect();
         if x != Lit::FALSE {
             // That both XOR the same so far is a rotation of its own.
             let inner = [(m, c), (low.sum, x)].map(|(p, q)| self.proof.extend(Gate::Xor(p, q)));
@@ -135,15 +131,12 @@ impl Sweep<'_> {
             rotated.extend(inner.iter().flat_map(|l| self.proof.definition(l.var())));
             given.extend(self.clauses_out_of(&rotated, &equal_clauses(inner[0], inner[1]))?);
         }
-        let carries = [after(first, at), after(second, at)];
-        let sums = [high.sum, second.sum[at]];
         let made = [low.carry, high.carry];
+        // Past the last weight, carries do not matter.
         let is_last = at + 1 == first.carry.len();
-        let counted = if is_last {
-            [made, made]
-        } else {
-            [carries, made]
-        };
+        let carries = [first, second].map(|adder| after(adder, at));
+        let counted = [if is_last { made } else { carries }, made];
+        let sums = [high.sum, second.sum[at]];
         let (mut found, counts) = self.same_place(&given, sums, counted)?;
         found.extend(counts);
         Some(Exchange {

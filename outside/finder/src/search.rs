@@ -7,6 +7,7 @@ use crate::gate::{Lit, Var};
 use crate::order::Order;
 use crate::proof::{Id, Proof};
 use crate::random::Random;
+use crate::sweep::is_past;
 
 /// How a search ended.
 pub enum Outcome {
@@ -304,11 +305,9 @@ impl<'p> Search<'p> {
         }
     }
 
+    /// Looked at seldom, since to ask for the time takes time.
     fn out_of_time(&self) -> bool {
-        let due = self.conflicts % 64 == 63;
-        due && self
-            .deadline
-            .is_some_and(|deadline| Instant::now() > deadline)
+        self.conflicts % 64 == 63 && is_past(self.deadline)
     }
 
     /// Opens a level with a literal, which may be true already.

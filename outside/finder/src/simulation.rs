@@ -9,7 +9,28 @@ pub struct Simulation {
     inputs: usize,
     /// Of each net, a word for each 64 patterns.
     rows: Vec<Vec<u64>>,
+    signatures: Vec<Signature>,
     random: Random,
+}
+
+/// What a function was on the patterns tried.
+#[derive(Clone, Copy, Default, PartialEq, Eq)]
+pub struct Signature {
+    /// A hash of its values, or of its complement's: whichever is 0 on the first pattern.
+    pub hash: u64,
+    /// Whether it is the complement's.
+    pub turned: bool,
+    words: usize,
+}
+
+impl Signature {
+    /// Goes on with 64 patterns.
+    fn add(&mut self, word: u64) {
+        self.turned |= self.words == 0 && word & 1 == 1;
+        self.words += 1;
+        let word = word ^ mask(self.turned);
+        self.hash = (self.hash.rotate_left(5) ^ word).wrapping_mul(0x517C_C1B7_2722_0A95);
+    }
 }
 
 impl Simulation {
@@ -19,6 +40,7 @@ impl Simulation {
         let mut simulation = Self {
             inputs,
             rows: vec![vec![]; gates.len()],
+            signatures: vec![Signature::default(); gates.len()],
             random: Random::of(1),
         };
         for round in 0..24 {
@@ -59,6 +81,7 @@ impl Simulation {
                 Gate::Xor(x, y) => of(x) ^ of(y),
             };
             self.rows[n].push(value);
+            self.signatures[n].add(value);
         }
     }
 
@@ -98,23 +121,25 @@ impl Simulation {
         }))
     }
 
-    /// A hash of a net's values that its complement has too, and whether it is the complement that
-    /// is 0 on the first pattern.
-    pub fn signature(&self, n: Var) -> (u64, bool) {
-        hash(self.rows[n].iter().copied())
+    /// The signature of a net.
+    pub fn signature(&self, n: Var) -> Signature {
+        self.signatures[n]
     }
 
     /// The signature of the carry of two or three bits.
-    pub fn carry_signature(&self, bits: &[Lit]) -> (u64, bool) {
-        let words = self.rows[0].len();
+    pub fn carry_signature(&self, bits: &[Lit]) -> Signature {
         let value = |l: Lit, k: usize| self.rows[l.var()][k] ^ mask(l.is_complemented());
-        hash((0..words).map(|k| match *bits {
-            [a, b, c] => {
-                let [a, b, c] = [a, b, c].map(|l| value(l, k));
-                a & b | a & c | b & c
-            }
-            _ => bits.iter().fold(u64::MAX, |all, &l| all & value(l, k)),
-        }))
+        let mut signature = Signature::default();
+        for k in 0..self.rows[0].len() {
+            signature.add(match *bits {
+                [a, b, c] => {
+                    let [a, b, c] = [a, b, c].map(|l| value(l, k));
+                    a & b | a & c | b & c
+                }
+                _ => bits.iter().fold(u64::MAX, |all, &l| all & value(l, k)),
+            });
+        }
+        signature
     }
 
     /// Whether a XOR b is n on every pattern (no), or its complement is (yes).
@@ -129,15 +154,4 @@ impl Simulation {
 /// All ones, or none.
 fn mask(set: bool) -> u64 {
     u64::from(set).wrapping_neg()
-}
-
-/// The hash of a row of words or of its complement, whichever is 0 on the first pattern; and
-/// whether it is the complement.
-fn hash(mut words: impl Iterator<Item = u64>) -> (u64, bool) {
-    let first = words.next().unwrap_or(0);
-    let turned = first & 1 == 1;
-    let join = |hash: u64, word: u64| {
-        (hash.rotate_left(5) ^ word ^ mask(turned)).wrapping_mul(0x517C_C1B7_2722_0A95)
-    };
-    (words.fold(join(0, first), join), turned)
 }

@@ -199,7 +199,7 @@ fn needed(proof: &Proof, last: Id) -> (Vec<bool>, Vec<bool>) {
     let mut clauses = vec![false; last + 1];
     let mut variables = vec![false; proof.gates().len()];
     clauses[last] = true;
-    for id in (0..=last).rev().filter(|&id| id >= proof.given_clauses()) {
+    for id in (proof.given_clauses()..=last).rev() {
         match proof.origin(id) {
             Origin::Chain(start, steps) if clauses[id] => {
                 clauses[*start] = true;

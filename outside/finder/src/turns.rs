@@ -7,7 +7,7 @@
 
 use std::time::{Duration, Instant};
 
-use cec_reference::{evaluate_nets, output_word, Literal, Netlist};
+use cec_reference::{evaluate_nets, output_word, Limits, Literal, Netlist};
 
 use crate::sweep::{Sweep, Swept};
 use crate::trim::{trim, Lines};
@@ -21,7 +21,7 @@ const MOST_CONFLICTS: u64 = 100_000;
 const NEAR: usize = 11;
 
 /// What no proof may have more of: clauses and variables have numbers of 16 bits.
-const MOST_CLAUSES: usize = 65_535;
+const MOST_CLAUSES: usize = Limits::LARGE.clauses;
 const MOST_VARIABLES: usize = Literal::LAST_VARIABLE as usize + 1;
 
 /// What the turns so far gave.
@@ -56,8 +56,13 @@ pub fn find(lists: [&Netlist; 2], bytes: usize, options: &Options, watch: Watch<
                 let outputs = lists[0].outputs().len();
                 effort.why = format!("output {output} of {outputs} is open");
             }
-            Swept::Over => {
-                effort.why = "time or memory for clauses was used up".into();
+            Swept::OutOfTime => {
+                effort.why = "the time ended".into();
+                break;
+            }
+            Swept::TooLarge => {
+                let clauses = sweep.proof.clause_count();
+                effort.why = format!("the search was given up at {clauses} clauses");
                 break;
             }
         }

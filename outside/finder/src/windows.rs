@@ -57,6 +57,7 @@ impl Sweep<'_> {
     pub(crate) fn window(&self, roots: &[Var], depth: usize) -> Window {
         let mut inside = vec![false; self.nets.len()];
         roots.iter().for_each(|&v| inside[v] = true);
+        // The miter's first clause says that net 0 is false.
         let (mut edge, mut clauses, mut is_whole) = (roots.to_vec(), vec![0], true);
         for level in 0.. {
             edge.retain(|&v| self.nets[v].defined.is_some());

@@ -37,6 +37,6 @@ pub use engine::prove;
 pub use evaluator::{evaluate, evaluate_nets, output_word};
 pub use frame::{field_bytes, read_frame, write_frame, Frame, Operation};
 pub use literal::Literal;
-pub use miter::Miter;
+pub use miter::{gates as miter_gates, outputs as miter_outputs, Miter};
 pub use netlist::{read_list, read_lists, Gate, Netlist};
 pub use refusal::Refusal;

@@ -69,7 +69,7 @@ impl Miter {
 
 /// The gates of both lists over the miter's variables, in the order of these. "Variables: 0 to I
 /// shared, left gates, right gates": a left net is its own variable.
-pub(crate) fn gates<'lists>(
+pub fn gates<'lists>(
     left: &'lists Netlist,
     right: &'lists Netlist,
 ) -> impl Iterator<Item = Gate> + 'lists {
@@ -82,7 +82,7 @@ pub(crate) fn gates<'lists>(
 }
 
 /// What the left list shows at each output and what the right one, over the miter's variables.
-pub(crate) fn outputs<'lists>(
+pub fn outputs<'lists>(
     left: &'lists Netlist,
     right: &'lists Netlist,
 ) -> impl Iterator<Item = [Literal; 2]> + 'lists {
