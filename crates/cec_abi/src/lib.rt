@@ -1,4 +1,6 @@
 // The calls under C names, as include/cec.h declares them: answers become numbers in an array that the caller lends.
+#![tactic(auto)]
+
 mod numbers; // a frame from a kind and numbers
 mod replies; // an answer as numbers
 

@@ -1,4 +1,6 @@
 // The checking program (document 01): it checks standard input with a store of 4,096 clauses and prints one report frame.
+#![tactic(auto)]
+
 mod report; // a stream's report
 
 use libc::STDERR_FILENO;

@@ -1,5 +1,7 @@
 // The checking program for long evidence: the same verdict and report frame as the checking program of document 01, for a standard input of
 // up to 4 MiB and with a store of 65,535 clauses.
+#![tactic(auto)]
+
 mod report; // a stream's report
 
 ghost use Rattle.std.specs.Prelude.{◌≡◌, length};

@@ -1,5 +1,7 @@
 // The evaluating program: a list on standard input and a pattern as its argument; on standard output the word's digits, or one report frame
 // with the refusal.
+#![tactic(auto)]
+
 mod answer; // a stream's answer
 mod pattern; // the argument's pattern
 

@@ -6,7 +6,7 @@ use digits::read::{NO_WORD, word_at};
 
 pub const PATTERN_DIGITS: usize = 16;
 
-#[derive(Drop)]
+#[derive(Clone, Copy)]
 pub enum Pattern {
     Bits(u64),
     Wrong,

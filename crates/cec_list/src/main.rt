@@ -1,5 +1,7 @@
 // The reading program: one list on standard input; on standard output the counts of the list as its header frame, or one report frame with the
 // refusal.
+#![tactic(auto)]
+
 mod answer; // a stream's answer
 
 use answer::answer;

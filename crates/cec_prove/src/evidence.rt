@@ -15,7 +15,7 @@ pub const PROOF_BYTES: usize = 503040;
 pub const WORKING_NUMBERS: usize = 33808;
 
 // What is printed: so many bytes of the stream, from its start, and behind them so many of the buffer, from its start.
-#[derive(Drop)]
+#[derive(Clone, Copy)]
 pub struct Printed {
     pub lists: usize,
     pub behind: usize,

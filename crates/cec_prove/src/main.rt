@@ -1,5 +1,7 @@
 // The proving program: two lists on standard input; on standard output both lists as they came and a proof behind them, ready for the
 // checking program, or one report frame with the refusal.
+#![tactic(auto)]
+
 mod evidence; // what is printed for a stream
 
 use evidence::{PROOF_BYTES, WORKING_NUMBERS, evidence};

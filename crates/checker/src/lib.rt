@@ -1,5 +1,7 @@
 // The checker (document 01, 'Steps'): a text of two lists and a proof, and a lent clause store. Every text gets a reply: the counts of an
 // accepted proof, or a refusal with its place.
+#![tactic(auto)]
+
 mod replay; // all lines of a proof
 mod verdict; // the verdict, with the clauses left in the store
 
@@ -14,7 +16,7 @@ use steps::Stepped;
 use verdict::verdict;
 
 // An accepted proof's lines and clauses, or the refusal.
-#[derive(Drop)]
+#[derive(Clone, Copy)]
 pub enum Checked {
     Accepted { steps: usize, clauses: usize },
     Refused(Refusal),

@@ -53,7 +53,7 @@ fn ended(got: Line, p: Progress) -> Stepped
 }
 
 // How far the resolves in a row went: a cursor behind them and the progress then, or the refusal of one.
-#[derive(Drop)]
+#[derive(Clone, Copy)]
 pub enum Ran {
     At(Cursor, Progress),
     Refused(Refusal),

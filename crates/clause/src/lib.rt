@@ -1,5 +1,7 @@
 // Clauses by value (document 01, 'The miter's clauses' and 'Steps'). Clauses are sets of literals: the literals of a clause rise, and equal ones
 // stand once.
+#![tactic(auto)]
+
 pub mod gates; // the clauses that define an AND gate and an XOR gate
 pub mod resolution; // one resolution step on two clauses of the store
 pub mod store; // clauses put into the store
@@ -11,7 +13,7 @@ ghost use Rattle.clause.specs.Sets.{Holds};
 use literal::Literal;
 
 // The literals in use are the first `len`; behind them stands Literal::BOUND.
-#[derive(Drop)]
+#[derive(Clone, Copy)]
 pub struct Clause {
     pub literals: [u16; Clause::WIDTH],
     pub len: usize,

@@ -8,7 +8,7 @@ ghost use Rattle.clause.specs.Sets.{literal_bound, head_of, filled, Holds, Store
 use crate::Clause;
 use literal::Literal;
 
-#[derive(Drop)]
+#[derive(Clone, Copy)]
 pub enum Outcome {
     Joined,
     Missing, // a pivot: refusal 10
@@ -16,7 +16,7 @@ pub enum Outcome {
 }
 
 // The clause counts only with the outcome Joined.
-#[derive(Drop)]
+#[derive(Clone, Copy)]
 pub struct Resolved {
     pub outcome: Outcome,
     pub clause: Clause,

@@ -1,5 +1,7 @@
 // Zeros in lent memory from a place on: bytes, 16-bit numbers and 64-bit words. Where the place lies behind the last, nothing changes; none of
 // the three asks anything of its caller.
+#![tactic(auto)]
+
 ghost use Rattle.std.specs.Prelude.{◌≡◌, ◌++◌, ◌-◌, length, take};
 ghost use Rattle.model.specs.Answers.{zeros};
 

@@ -5,7 +5,7 @@ use crate::lines::Derived;
 use literal::Literal;
 
 // n is the gate of x and y; a to d are the numbers of its clauses in the order of the miter, of which an AND has three.
-#[derive(Drop)]
+#[derive(Clone, Copy)]
 pub struct DefinedGate {
     pub n: Literal,
     pub x: Literal,
@@ -18,7 +18,7 @@ pub struct DefinedGate {
 
 // Where the proof ends, and the numbers that are kept of the gate: those of the two clauses that link it, where linked, or else of its
 // clauses over its key.
-#[derive(Drop)]
+#[derive(Clone, Copy)]
 pub struct DerivedGate {
     pub lines: usize,
     pub clauses: u16,

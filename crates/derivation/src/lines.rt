@@ -11,7 +11,7 @@ use frame::resolves::write_resolve;
 use literal::Literal;
 
 // Where the proof ends: its lines, how many clauses there are then, and the number of the clause that was asked for.
-#[derive(Drop)]
+#[derive(Clone, Copy)]
 pub struct Derived {
     pub lines: usize,
     pub clauses: u16,
@@ -30,7 +30,7 @@ pub fn given(at: Derived, c: u16) -> Derived
 }
 
 // A resolve's fields: the first clause holds the variable, the second its complement.
-#[derive(Drop)]
+#[derive(Clone, Copy)]
 pub struct Resolve {
     pub first: u16,
     pub second: u16,

@@ -1,5 +1,7 @@
 // The digits of a line (document 01, 'Lines on the wire'): which bytes are digits, how many stand at a place, and the numbers of one, two and
 // three bytes that they spell.
+#![tactic(auto)]
+
 pub mod packed; // four bytes in one number, and the digits that they spell
 pub mod read; // the number that the digits at a place spell
 

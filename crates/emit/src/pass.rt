@@ -34,7 +34,7 @@ use table::links::keep;
 use table::rows::ROW;
 
 // Where the proof ends: its lines, how many clauses there are then, and the number of the next gate's first clause.
-#[derive(Drop)]
+#[derive(Clone, Copy)]
 pub struct Progress {
     pub lines: usize,
     pub clauses: u16,

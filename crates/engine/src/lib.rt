@@ -1,5 +1,7 @@
 // The engine (document 01, 'Folded form and the engine'): two lists in, a proof that they agree out, exactly when each output pair has the
 // same folded form. The first pass folds, the outputs are compared, and the second pass writes the proof.
+#![tactic(auto)]
+
 ghost use Rattle.std.specs.Prelude.{length};
 ghost use Rattle.model.specs.Engine as model;
 ghost use Rattle.engine.specs.Replies.{proved_of, lists_of, FoldedSays, AnswerSays};
@@ -13,7 +15,7 @@ use netlist::{Both, Pair, read_lists};
 use refusal::Refusal;
 
 // The number of the proof's lines, or the refusal.
-#[derive(Drop)]
+#[derive(Clone, Copy)]
 pub enum Proved {
     Lines(usize),
     Refused(Refusal),

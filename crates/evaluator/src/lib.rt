@@ -1,4 +1,6 @@
 // The evaluator: one list from a text, a pattern in, a word out (document 01, 'Lines on the wire').
+#![tactic(auto)]
+
 ghost use Rattle.std.specs.Prelude.{◌≡◌, length};
 ghost use Rattle.model.specs.Answers.{zeros};
 ghost use Rattle.model.specs.Nets.{Netlist, eval};
@@ -11,7 +13,7 @@ use netlist::{Counts, One, read_list};
 use refusal::Refusal;
 use values::{read_word, run_gates, set_inputs};
 
-#[derive(Drop)]
+#[derive(Clone, Copy)]
 pub enum Evaluated {
     Word(u64),
     Refused(Refusal),

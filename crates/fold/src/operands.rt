@@ -6,7 +6,7 @@ ghost use Rattle.fold.specs.Entries.{folded_of};
 
 use literal::Literal;
 
-#[derive(Drop)]
+#[derive(Clone, Copy)]
 pub enum Folded {
     Is(Literal),
     Key(Literal, Literal),

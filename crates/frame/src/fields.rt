@@ -16,7 +16,7 @@ use crate::kinds::{
 pub const HIGHEST_LINE: usize = 0xFFFFFF;
 
 // The kind, and count fields with the digits that each has on the line.
-#[derive(Drop)]
+#[derive(Clone, Copy)]
 pub struct Fields {
     pub kind: u8,
     pub count: usize,

@@ -20,7 +20,7 @@ pub const EXTEND_BYTES: usize = 11;
 pub const REPORT_BYTES: usize = 19;
 
 // A kind of the table, or a kind byte that is outside it.
-#[derive(Drop)]
+#[derive(Clone, Copy)]
 pub enum Kind {
     Header,
     Gate(Op),

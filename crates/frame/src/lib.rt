@@ -1,5 +1,7 @@
 // One line of a text as one frame, and back (document 01, 'Lines on the wire').
 // Every text gets an answer: nothing here asks anything of the bytes that it is given.
+#![tactic(auto)]
+
 pub mod fields; // a frame as its kind and fields, for writing
 pub mod kinds; // the table of kinds
 pub mod read; // the fields of a line, by its kind
@@ -20,20 +22,20 @@ use read::{Look, frame_at};
 use refusal::Refusal;
 
 // A place in a text: the next byte, and the number of its line, from 1.
-#[derive(Drop)]
+#[derive(Clone, Copy)]
 pub struct Cursor {
     pub at: usize,
     pub line: usize,
 }
 
-#[derive(Drop)]
+#[derive(Clone, Copy)]
 pub enum Op {
     And,
     Xor,
 }
 
 // A frame of each kind of the table.
-#[derive(Drop)]
+#[derive(Clone, Copy)]
 pub enum Frame {
     Header {
         inputs: u8,
@@ -68,14 +70,14 @@ pub enum Frame {
 }
 
 // A decoded line: its frame, or the refusal with its place.
-#[derive(Drop)]
+#[derive(Clone, Copy)]
 pub enum Decoded {
     Framed(Frame),
     Fault { number: u8, line: usize },
 }
 
 // What stands at a cursor: a frame with the cursor behind its line, nothing, or a refusal with its place.
-#[derive(Drop)]
+#[derive(Clone, Copy)]
 pub enum Line {
     Read(Frame, Cursor),
     End,
@@ -83,7 +85,7 @@ pub enum Line {
 }
 
 // The length of the line written, or the refusal with its place.
-#[derive(Drop)]
+#[derive(Clone, Copy)]
 pub enum Written {
     Done(usize),
     Unwritten { number: u8, line: usize },

@@ -24,7 +24,7 @@ fn feeds(text: &[u8], at: usize, bytes: usize) -> bool
 }
 
 // The operands of a gate's line or of an extension's; or there are none, and the line is refused.
-#[derive(Drop)]
+#[derive(Clone, Copy)]
 pub enum Operands {
     Are(u16, u16),
     None,
@@ -49,7 +49,7 @@ pub fn operands_at(text: &[u8], at: usize) -> Operands
 }
 
 // The literal of an output's line; or there is none, and the line is refused.
-#[derive(Drop)]
+#[derive(Clone, Copy)]
 pub enum Output {
     Is(u16),
     None,
@@ -70,7 +70,7 @@ pub fn output_at(text: &[u8], at: usize) -> Output
 }
 
 // The clauses of a resolve's line and its pivot; or there are none, and the line is refused.
-#[derive(Drop)]
+#[derive(Clone, Copy)]
 pub enum Resolve {
     Of(u16, u16, u16),
     None,
@@ -99,7 +99,7 @@ pub fn resolve_at(text: &[u8], at: usize) -> Resolve
 }
 
 // The frame of the line at a place, and the place behind the line; or there is none: nothing is left, or the line is refused.
-#[derive(Drop)]
+#[derive(Clone, Copy)]
 pub enum Look {
     Is(Frame, usize),
     Other,

@@ -1,5 +1,7 @@
 // Gates and outputs of a list that stands at a place of a text, each by its own place: the lines of a list have fixed lengths. Each contract names
 // gate k, or output k, of whatever list stands there, so that nobody proves the reading again; nothing here reads or refuses a list.
+#![tactic(auto)]
+
 ghost use Rattle.std.specs.Prelude.{◌≡◌, ◌≤◌, ◌<◌, drop, length, get_or};
 ghost use Rattle.model.specs.Limits.{most_gates, most_outputs};
 ghost use Rattle.model.specs.Nets.{Netlist};
@@ -11,7 +13,7 @@ use frame::Op;
 use frame::kinds::{GATE_BYTES, HEADER_BYTES, Kind, OUTPUT_BYTES, kind_at};
 use frame::read::{Operands, Output, operands_at, output_at as literal_at};
 
-#[derive(Drop)]
+#[derive(Clone, Copy)]
 pub struct Gate {
     pub op: Op,
     pub x: u16,

@@ -1,10 +1,12 @@
 // Literals by value (document 01, 'Lines on the wire' and 'The miter's clauses'): a net or a variable, or its complement.
+#![tactic(auto)]
+
 ghost use Rattle.std.specs.Prelude.{◌≡◌, ◌%◌, ◌≤◌};
 ghost use Rattle.model.specs.Nets.{net_of};
 ghost use Rattle.model.specs.Clauses as model;
 
 // The variable v is 2 × v, its complement 2 × v + 1.
-#[derive(Drop)]
+#[derive(Clone, Copy)]
 pub struct Literal {
     pub code: u16,
 }

@@ -16,7 +16,7 @@ use refusal::Refusal;
 use steps::{Progress, Stepped, clause_count, push_gate};
 
 // How many clauses there are then; or the store is too short for them.
-#[derive(Drop)]
+#[derive(Clone, Copy)]
 pub enum Filled {
     UpTo(usize),
     Short,

@@ -14,7 +14,7 @@ use literal::Literal;
 use netlist::Pair;
 
 // n = AND or XOR of x, y.
-#[derive(Drop)]
+#[derive(Clone, Copy)]
 pub struct Definition {
     pub op: Op,
     pub n: Literal,

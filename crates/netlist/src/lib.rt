@@ -1,5 +1,7 @@
 // Gate lists read from a text (document 01, 'Lines on the wire'; refusals 2 to 7): one list, two lists, and two lists with lines behind them.
 // Every text gets an answer. Reading goes from the top; the first fault ends it, and no more of the text is looked at.
+#![tactic(auto)]
+
 mod lines; // the lines of a list: header, gates, outputs, and the end
 mod plain; // gates and outputs in a row
 
@@ -17,7 +19,7 @@ use lines::{read_body, read_end, read_header};
 use refusal::Refusal;
 
 // What a header states.
-#[derive(Drop)]
+#[derive(Clone, Copy)]
 pub struct Counts {
     pub inputs: usize,
     pub gates: usize,
@@ -25,28 +27,28 @@ pub struct Counts {
 }
 
 // A header, or a whole list, and the cursor behind it.
-#[derive(Drop)]
+#[derive(Clone, Copy)]
 enum Part {
     Counted(Counts, Cursor),
     Refused(Refusal),
 }
 
 // The cursor behind what was read.
-#[derive(Drop)]
+#[derive(Clone, Copy)]
 enum Behind {
     At(Cursor),
     Refused(Refusal),
 }
 
 // One list and nothing behind it.
-#[derive(Drop)]
+#[derive(Clone, Copy)]
 pub enum One {
     Counted(Counts),
     Refused(Refusal),
 }
 
 // Two lists: their shared inputs and outputs, the gates of the left and of the right, the place of the right list, and the cursor behind both.
-#[derive(Drop)]
+#[derive(Clone, Copy)]
 pub struct Pair {
     pub inputs: usize,
     pub left: usize,
@@ -56,7 +58,7 @@ pub struct Pair {
     pub next: Cursor,
 }
 
-#[derive(Drop)]
+#[derive(Clone, Copy)]
 pub enum Both {
     Paired(Pair),
     Refused(Refusal),

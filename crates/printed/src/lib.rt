@@ -1,4 +1,6 @@
 // A line that a program prints: a frame's, or bytes of its own, in room for the longest frame.
+#![tactic(auto)]
+
 ghost use Rattle.std.specs.Prelude.{◌≤◌};
 ghost use Rattle.model.specs.Limits.{highest_line};
 ghost use Rattle.model.specs.Frames.{line_of, stated_line};
@@ -11,7 +13,7 @@ use frame::{Frame, write_frame};
 use refusal::Refusal;
 
 // A line to print: its bytes from the start, zeros behind, and how many they are.
-#[derive(Drop)]
+#[derive(Clone, Copy)]
 pub struct Printed {
     pub line: [u8; REPORT_BYTES],
     pub len: usize,

@@ -1,5 +1,7 @@
 // Refusals (document 01, 'Refusals by the place of the check'): each number once, by name, in the order of the table.
-#[derive(Drop)]
+#![tactic(auto)]
+
+#[derive(Clone, Copy)]
 pub struct Refusal {
     pub number: u8,
     pub line: usize,

@@ -1,5 +1,7 @@
 // A stream's report within two limits: the checker's verdict on a stream of at most so many bytes, with a lent store, as the one line that a
 // checking program prints.
+#![tactic(auto)]
+
 ghost use Rattle.std.specs.Prelude.{◌≡◌, ◌<◌, length};
 ghost use Rattle.model.specs.Limits.{highest_line};
 ghost use Rattle.model.specs.Answers.{Answer};

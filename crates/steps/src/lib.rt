@@ -1,5 +1,7 @@
 // One step of a proof (document 01, 'Steps') over the clause store, and the clauses of a gate put into it. The store holds the clauses from its
 // start, Clause::WIDTH numbers each; the rest of it is of no account here. No work on a step depends on the size of the store.
+#![tactic(auto)]
+
 ghost use Rattle.std.specs.Prelude.{◌≡◌, ℕ, ◌+◌, ◌*◌, ◌<◌, ◌≤◌, List, [], ◌∷◌, ◌++◌, ◌&&◌, leb, ltb, length, get_or};
 ghost use Rattle.model.specs.Clauses as model;
 ghost use Rattle.model.specs.Steps as steps;
@@ -17,7 +19,7 @@ use literal::Literal;
 use refusal::Refusal;
 
 // How far a proof is: clauses so far, the next unused variable, steps done, and whether the last was a resolve with the empty clause.
-#[derive(Drop)]
+#[derive(Clone, Copy)]
 pub struct Progress {
     pub empty: bool,
     pub next: u16,
@@ -25,7 +27,7 @@ pub struct Progress {
     pub steps: usize,
 }
 
-#[derive(Drop)]
+#[derive(Clone, Copy)]
 pub enum Stepped {
     Done(Progress),
     Refused(Refusal),
@@ -138,7 +140,7 @@ pub fn extend_step(
 
 // What a resolve comes to: whether the clause that it adds is empty, or the number of its refusal. These are two bytes; the progress that follows
 // from them is worked out where the loop over a proof's lines has it, and is not copied back.
-#[derive(Drop)]
+#[derive(Clone, Copy)]
 enum Added {
     Clause(bool),
     Refused(u8),

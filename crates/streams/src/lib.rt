@@ -1,4 +1,6 @@
 // Standard input, read to its end, how long a program's stream may be, and its answer on standard output.
+#![tactic(auto)]
+
 ghost use Rattle.std.specs.Prelude.{◌≡◌, length};
 ghost use Rattle.streams.specs.Streams.{Within};
 
@@ -15,7 +17,7 @@ pub fn room() -> [u8; 65537]
 }
 
 // How the reading of a stream ended.
-#[derive(Drop)]
+#[derive(Clone, Copy)]
 pub enum Stream {
     // At its end or with the buffer full, after so many bytes.
     Read(usize),

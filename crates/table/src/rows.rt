@@ -15,7 +15,7 @@ pub const AND: u16 = 2;
 pub const XOR: u16 = 3;
 
 // What is known of a net: see `model.Entry`.
-#[derive(Drop)]
+#[derive(Clone, Copy)]
 pub struct Entry {
     pub rep: Literal,
     pub kind: u16,

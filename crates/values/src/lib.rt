@@ -1,5 +1,7 @@
 // The values of nets, a byte of 0 or 1 each in a lent slice: net 0 and the inputs, then what each gate makes of those before it. The gates and
 // the outputs are those of the list that stands at a place of a text; nothing here reads or refuses a list.
+#![tactic(auto)]
+
 ghost use Rattle.std.specs.Prelude.{◌≡◌, ℕ, ◌+◌, ◌≤◌, ◌<◌, Bool, List, length, drop};
 ghost use Rattle.model.specs.Limits.{most_inputs, most_gates, most_outputs};
 ghost use Rattle.model.specs.Nets.{Netlist, net_of, bit, apply, literal, start, nets, eval};

@@ -1,0 +1,21 @@
+-- Each branch knows on which side of 48, 58, 65 and 71 the byte lies, and so the value of each test of `is_digit`.
+use native.Mathlib.Omega.{arith}
+use borrow.Author.Tests.{le-leb, lt-leb}
+use lib.Dec.{leb-suc-suc}
+use Rattle.digits.proofs.is_digit.Goals as goal
+
+pub returns-then-b-lt48 : goal.returns-then-b-lt48
+returns-then-b-lt48 c = let b = c.args.b in simp (lt-leb 48 b (omega arith), lt-leb 65 b (omega arith))
+
+pub returns-then-b-lt58 : goal.returns-then-b-lt58
+returns-then-b-lt58 c = let b = c.args.b in simp (le-leb 48 b (omega arith), le-leb b 57 (omega arith))
+
+pub returns-then-b-lt65 : goal.returns-then-b-lt65
+returns-then-b-lt65 c =
+    let b = c.args.b in
+    simp (le-leb 48 b (omega arith), lt-leb b 57 (omega arith), lt-leb 65 b (omega arith))
+
+pub returns : goal.returns
+returns c =
+    let b = c.args.b in
+    simp (le-leb 48 b (omega arith), lt-leb b 57 (omega arith), le-leb 65 b (omega arith), leb-suc-suc b 70)
