@@ -86,7 +86,7 @@ named_byte byte high low h eh el k n =
     let vh : value_of high ≡ byte / 16 = rw (eh, a.is_one) a.value in
     let vl : value_of low ≡ byte % 16 = rw (el, b.is_one) b.value in
     let e : 16 * value_of high + value_of low ≡ byte = omega arith in
-    by_kind (λ kind s. sym (s.spelt ∙ e)) (λ none. rw e at (none ih il)) k n
+    by_kind {P = Spell high low} {Q = λ (kind : ℕ). byte ≡ kind} (λ kind s. sym (s.spelt ∙ e)) (λ none. rw e at (none ih il)) k n
 
 -- ---- the kind of a line
 

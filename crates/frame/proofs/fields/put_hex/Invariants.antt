@@ -1,0 +1,17 @@
+-- Digits are stored from the last to the first. The invariant: storing the digits that are left gives what storing all of them gives.
+use Prim.Native.Nat.{suc, ◌+◌, ◌-◌, ◌≤◌}
+use mathlib.Core.Path.{◌≡◌, refl, ◌∙◌}
+use native.Mathlib.Omega.{arith}
+use borrow.Author.Rules.{rules}
+use lib.ListN.{length, length-set}
+use lib.Seq.{sets}
+use Rattle.model.specs.Frames.{hex}
+use Rattle.frame.proofs.WriteLaws.{store_digit}
+use Rattle.frame.proofs.fields.put_hex.Given as goal
+
+abbrev pub invariant-loop-left : goal.invariant-loop-left
+invariant-loop-left l =
+    (l.left ≤ l.width) × (l.at + l.width ≤ length l.out) × (length l.out ≡ length l.initial.out) × (sets l.out l.at (hex l.left l.rest) ≡ sets l.initial.out l.at (hex l.width l.n))
+
+abbrev pub decreases-loop-left : goal.decreases-loop-left
+decreases-loop-left l = l.left

@@ -1,0 +1,11 @@
+-- Less than two bytes are no kind; the kind of two bytes is that of the line (`kind_says`).
+use native.Mathlib.Omega.{arith}
+use Rattle.frame.proofs.KindLaws.{unframed_short, kind_says}
+use borrow.Author.Rules.{rules}
+use Rattle.frame.proofs.kinds.kind_at.Goals as goal
+
+pub returns-then-text-at-lt2 : goal.returns-then-text-at-lt2
+returns-then-text-at-lt2 c = let a = c.args in unframed_short a.text.now a.at (omega arith)
+
+pub returns : goal.returns
+returns c = let a = c.args in kind_says a.text.now a.at (omega arith) c.spelt_kind.result c.spelt_kind.ensures

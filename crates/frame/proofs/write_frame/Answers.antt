@@ -1,0 +1,35 @@
+-- The buffer is cleared first, so that both refusals leave zeros and a written line has zeros behind it; the ways of writing are in
+-- `WriteLaws`.
+use mathlib.Core.Path.{refl, sym, ap, ◌∙◌}
+use native.Mathlib.Nat.{zero-add}
+use native.Mathlib.Omega.{arith}
+use borrow.Author.Tests.{not-true, not-false}
+use Prim.Native.Nat.{ℕ}
+use lib.ListN.{length, length-replicate}
+use Rattle.frame.specs.Frames.{frame_of}
+use Rattle.clearing.proofs.ClearLaws.{cleared}
+use Rattle.frame.proofs.WriteLaws.{write_unfit, write_short, write_done}
+use borrow.Author.Rules.{rules}
+use Rattle.frame.proofs.write_frame.Goals as goal
+
+pub returns-then-not-line_number_fits : goal.returns-then-not-line_number_fits
+returns-then-not-line_number_fits c =
+    let a = c.args in
+    let both = write_unfit (frame_of a.frame) (length a.out.now) (sym c.line_number_fits.ensures ∙ c.if-not-line_number_fits.true) (cleared a.out.now _ _ refl c.clear_bytes.ensures) in record { replies = both.0; leaves = both.1 }
+
+pub returns-then-out-line_len : goal.returns-then-out-line_len
+returns-then-out-line_len c =
+    let a = c.args in
+    let zeroed = cleared a.out.now _ _ refl c.clear_bytes.ensures in
+    let both = write_short (frame_of a.frame) (length a.out.now) (omega (arith, c.line_len.ensures, ap length zeroed, length-replicate {A = ℕ} (length a.out.now) 0)) zeroed in record { replies = both.0; leaves = both.1 }
+
+pub returns : goal.returns
+returns c =
+    let a = c.args in
+    let zeroed = cleared a.out.now _ _ refl c.clear_bytes.ensures in
+    let w = c.write_line in
+    let both = write_done (frame_of a.frame) (length a.out.now)
+    (sym c.line_number_fits.ensures ∙ c.if-not-line_number_fits.false)
+    (omega (arith, c.line_len.ensures, ap length zeroed, length-replicate {A = ℕ} (length a.out.now) 0))
+    (w.ensures.0 ∙ zero-add _)
+    (rw zeroed at w.ensures.1) in record { replies = both.0; leaves = both.1 }

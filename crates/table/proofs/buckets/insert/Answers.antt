@@ -1,0 +1,24 @@
+-- The head of the bucket is the net's next, and the net its new head; then the row is stored (`inserted`).
+use native.Mathlib.Omega.{arith}
+use lib.ListN.{length-set}
+use lib.Seq.{length-sets}
+use Rattle.table.specs.Rows.{entry_of}
+use Rattle.table.proofs.BucketLaws.{inserted}
+use borrow.Author.Rules.{rules}
+use Rattle.table.proofs.buckets.insert.Goals as goal
+
+-- LOST same-length
+-- same_length : tie.Need-same-length
+-- same_length c = rw c.before.before.enter.ensures (simp (length-sets, length-set))
+
+pub bounds-work-v : goal.bounds-work-v
+bounds-work-v c = simp length-set (omega (arith, c.requires.room, c.requires.inside))
+
+pub enter-requires : goal.enter-requires
+enter-requires c = simp length-set (omega (arith, c.requires.room, c.requires.inside))
+
+pub returns : goal.returns
+returns c =
+    let a = c.args in
+    let g = c.bucket.ensures in
+    λ t x n. rw (c.enter.ensures, g.0) (inserted a.work.now a.nets a.v (entry_of a.e) t c.requires (omega arith) x n)

@@ -1,0 +1,6 @@
+-- The number of the literal's net at its sign.
+use borrow.Author.Rules.{rules}
+use Rattle.table.proofs.links.link.Goals as goal
+
+pub returns : goal.returns
+returns c = rw (c.variable.ensures, c.sign.ensures) at c.number_at.ensures

@@ -1,0 +1,10 @@
+-- The first number of the net's row, with the sign of the literal.
+use mathlib.Core.Path.{◌∙◌}
+use native.Mathlib.Omega.{arith}
+use Rattle.table.proofs.RowLaws.{signed_rep}
+use borrow.Author.Rules.{rules}
+use Rattle.table.proofs.rows.representative.Goals as goal
+
+pub returns : goal.returns
+returns c t h n =
+    signed_rep h _ n c.sign.result _ c.sign.ensures (rw (c.of-rep.ensures, c.variable.ensures) at c.signed.ensures)
