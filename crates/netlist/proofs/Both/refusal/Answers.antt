@@ -1,0 +1,6 @@
+-- Each arm knows its case of the enum.
+use borrow.Author.Rules.{rules}
+use Rattle.netlist.proofs.Both.refusal.Goals as goal
+
+pub returns-in-Paired : goal.returns-in-Paired
+returns-in-Paired c = rw c.in-Paired.is
