@@ -12,6 +12,7 @@ use Rattle.table.proofs.RowLaws.{search_next, search_here}
 use Rattle.table.proofs.BucketLaws.{Walk, walk_begins, walk_on}
 use borrow.Author.Rules.{rules}
 use Rattle.table.proofs.buckets.find.Goals as goal
+use Rattle.table.proofs.buckets.find.Goals.{then-fits, else-fits}
 
 pub loop-next-init : goal.loop-next-init
 loop-next-init c =
@@ -27,15 +28,15 @@ loop-next-preserved c =
     let l = c.loop-next in
     let u = l.next - 1 in
     let m : suc u ≡ l.next = omega arith in
-    let f = c.fits2.ensures in (
+    let f = c.fits.ensures in (
       omega (arith, c.at_most-next-in-loop-next.ensures.0),
       λ t k x n e.
           let w : Walk a.nets t k a.a.code a.b.code a.v (suc u) l.found = rw m (l.invariant.1 t k x n e) in
           walk_on a.nets t k a.a.code a.b.code a.v a.work.now x n c.at_most-next-in-loop-next.result u l.found c.if-fits.found (omega arith) w
-          (⊎_elim
-          (λ q. q.1 ∙ sym (search_here k a.a.code a.b.code t a.v u (omega arith) (sym (f t k x.rows (omega arith) e) ∙ q.0.taken)))
-          (λ q. q.1 ∙ w.first ∙ sym (search_next k a.a.code a.b.code t a.v u (omega arith) (sym (f t k x.rows (omega arith) e) ∙ q.0.left)))
-          c.if-fits.branch)
+          (elim c.if-fits.branch [
+            then-fits q ↦ q.found-is ∙ sym (search_here k a.a.code a.b.code t a.v u (omega arith) (sym (f t k x.rows (omega arith) e) ∙ q.if-fits.true))
+            | else-fits q ↦ q.found-is ∙ w.first ∙ sym (search_next k a.a.code a.b.code t a.v u (omega arith) (sym (f t k x.rows (omega arith) e) ∙ q.if-fits.false))
+          ])
           c.at_most-next-in-loop-next.ensures.1,
     )
 

@@ -1,0 +1,23 @@
+-- The invariant: of whatever two lists stand in the text, the store holds the first clause and those of the variables before v.
+use Prim.Native.Nat.{ℕ, ◌+◌, ◌-◌, ◌≤◌}
+use mathlib.Core.Path.{◌≡◌, refl, ◌∙◌}
+use native.Mathlib.Omega.{arith}
+use borrow.Author.Rules.{rules}
+use lib.ListN.{length}
+use Rattle.steps.specs.Progress.{Held}
+use Rattle.miter.specs.Miters.{PairStands, gate_count, gates_up_to}
+use Rattle.steps.proofs.StepLaws.{few}
+use Rattle.miter.proofs.BeginLaws.{none_yet, variable_held, variable_short}
+use Rattle.miter.proofs.begin.write_variables.Given as goal
+
+abbrev pub invariant-loop-v : goal.invariant-loop-v
+invariant-loop-v l =
+    (1 + l.pair.inputs ≤ l.v)
+    × (l.v ≤ l.end)
+    × (1 ≤ l.count)
+    × (l.count ≤ l.room)
+    × (length l.store ≡ length l.initial.store)
+    × ((w : PairStands l.text l.pair) (i : ℕ) → l.v ≡ 1 + l.pair.inputs + i → Held l.store (gates_up_to w.left w.right i) × (length (gates_up_to w.left w.right i) ≡ l.count))
+
+abbrev pub decreases-loop-v : goal.decreases-loop-v
+decreases-loop-v l = l.end - l.v

@@ -1,0 +1,46 @@
+-- The invariant: of whatever list stands at the place, the bytes hold the nets once its first k gates have run (`after`). Each gate reads
+-- nets below its own, so its literals have the values of the definition (`gate_stored`).
+use Prim.Native.Nat.{ℕ, ◌+◌, ◌-◌, ◌≤◌}
+use mathlib.Core.Path.{◌≡◌, refl, sym, ap, ◌∙◌, subst}
+use native.Mathlib.Omega.{arith}
+use borrow.Author.Rules.{rules}
+use lib.ListN.{length, drop, set, length-set}
+use Rattle.model.specs.Nets.{Netlist, literal, start}
+use Rattle.laws.specs.ListText.{Stands}
+use Rattle.laws.specs.Growing.{after, after_none, after_all}
+use Rattle.laws.specs.Values.{truths, gate_over, nets_truths, length_start}
+use Rattle.values.specs.Values.{IsBit, HoldsValues}
+use Rattle.values.proofs.ValueLaws.{gate_stored}
+use Rattle.values.proofs.run_gates.Goals as goal
+
+-- LOST same-length
+-- same_length : tie.Need-same-length invariant-loop decreases-loop
+-- same_length c = c.before.loop.invariant.1
+
+pub loop-k-init : goal.loop-k-init
+loop-k-init c = (
+  omega arith,
+  refl,
+  λ n p s i g h.
+      subst (HoldsValues c.args.values.now) (ap (λ (k : ℕ). start k p) (sym i) ∙ sym (after_none (gate_over truths) (start n.inputs p) n.gates)) h,
+)
+
+pub loop-k-preserved : goal.loop-k-preserved
+unfolding literal
+loop-k-preserved c =
+    let l = c.loop-k in
+    let x = rw c.of.ensures at c.literal_at-a.ensures.value in
+    let y = rw c.of-in-loop-k.ensures at c.literal_at-b.ensures.value in
+    let v = l.invariant in (
+      omega arith,
+      simp length-set v.1,
+      λ n p s i g h.
+          subst (λ (j : ℕ). HoldsValues (set l.values (1 + j + l.k) c.gate_value.result) (after (gate_over truths) (start n.inputs p) n.gates (l.k + 1))) i
+          (gate_stored truths IsBit s (start n.inputs p) (length_start n.inputs p) l.k c.gate_at-gate.result _ _ _ (omega arith) (v.2 n p s i g h) (omega arith) (c.gate_at-gate.ensures n s (omega arith)) x y c.gate_value.ensures),
+    )
+
+pub returns : goal.returns
+returns c =
+    let l = c.loop-k in
+    λ n p s i g h.
+    subst (HoldsValues l.values) (after_all (gate_over truths) (start n.inputs p) n.gates l.k (omega arith) ∙ nets_truths n p) (l.invariant.2 n p s i g h)
