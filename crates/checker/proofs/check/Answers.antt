@@ -1,0 +1,28 @@
+-- The verdict's clauses stay and zeros come behind them, or zeros come everywhere; acceptance is sound by `laws/Soundness`.
+use native.Mathlib.Omega.{arith}
+use lib.ListN.{length}
+use Rattle.laws.specs.Soundness.{sound}
+use Rattle.clearing.proofs.ClearLaws.{cleared}
+use Rattle.checker.proofs.VerdictLaws.{kept}
+use borrow.Author.Rules.{rules}
+use Rattle.checker.proofs.check.Goals as goal
+
+pub overflow_mul-p : goal.overflow_mul-p
+overflow_mul-p c =
+    let h = rw c.in-Done.is at c.verdict-answered.ensures in
+    omega (arith, h.3)
+
+pub returns-in-Done : goal.returns-in-Done
+returns-in-Done c =
+    let v = c.verdict-answered in
+    let h = rw c.in-Done.is at v.ensures in
+    let n = length c.args.store.now in let both = (
+      rw (h.1, h.2.steps, h.2.clauses),
+      (rw h.1 (kept v.new.store _ _ h.0 n h.2 (search rules) c.clear_numbers.ensures), sound _ n h.0 h.1),
+    ) in record { replies = both.0; leaves = both.1; agrees = both.2 }
+
+pub returns-in-Refused : goal.returns-in-Refused
+returns-in-Refused c =
+    let v = c.verdict-answered in
+    let h = rw c.in-Refused.is at v.ensures in
+    let both = (rw h, (rw h (cleared v.new.store _ (length c.args.store.now) (search rules) c.clear_numbers-in-Refused.ensures), tt)) in record { replies = both.0; leaves = both.1; agrees = both.2 }

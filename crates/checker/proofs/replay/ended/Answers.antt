@@ -1,0 +1,12 @@
+-- Each case is the definition's own.
+use borrow.Author.Rules.{rules}
+use Rattle.checker.proofs.replay.ended.Goals as goal
+
+pub returns-in-Refused : goal.returns-in-Refused
+returns-in-Refused c = rw c.in-Refused.is
+
+pub returns-in-End : goal.returns-in-End
+returns-in-End c = rw c.in-End.is
+
+pub returns-in-Read : goal.returns-in-Read
+returns-in-Read c = rw c.in-Read.is

@@ -1,0 +1,9 @@
+-- Lower and higher are the definition's order (`by_order`).
+use mathlib.Core.Path.{◌∙◌}
+use mathlib.Core.Bool.{false}
+use Rattle.fold.proofs.OperandLaws.{by_order}
+use borrow.Author.Rules.{rules}
+use Rattle.fold.proofs.operands.and_of.Goals as goal
+
+pub returns : goal.returns
+returns c = c.and_ordered.ensures ∙ by_order false _ _ c.lower.ensures c.higher.ensures

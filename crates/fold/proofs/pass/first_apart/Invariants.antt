@@ -1,0 +1,20 @@
+-- The invariant: the outputs below k have the same representatives, so the comparison goes on from k.
+use Prim.Native.Nat.{◌+◌, ◌-◌, ◌≤◌}
+use mathlib.Core.Path.{◌≡◌, sym, ◌∙◌}
+use mathlib.Core.List.{map}
+use native.Mathlib.Omega.{arith}
+use lib.ListN.{drop}
+use Rattle.fold_laws.specs.Engine.{moved_to, both_table, reps_apart, by_reps}
+use Rattle.table.specs.Rows.{HoldsTable}
+use Rattle.miter.specs.Miters.{PairStands}
+use Rattle.fold.proofs.PassLaws.{from_first, differ_here, differ_later, apart_none}
+use borrow.Author.Rules.{rules}
+use Rattle.fold.proofs.pass.first_apart.Given as goal
+
+abbrev pub invariant-loop-k : goal.invariant-loop-k
+invariant-loop-k l =
+    (l.k ≤ l.outputs)
+    × ((w : PairStands l.text l.pair) → HoldsTable l.work (both_table w.left w.right) → by_reps w.left w.right ≡ reps_apart (1 + l.k) (both_table w.left w.right) (drop l.k w.left.outs) (drop l.k (map (moved_to w.left) w.right.outs)))
+
+abbrev pub decreases-loop-k : goal.decreases-loop-k
+decreases-loop-k l = l.outputs - l.k
