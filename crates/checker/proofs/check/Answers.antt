@@ -16,13 +16,10 @@ pub returns-in-Done : goal.returns-in-Done
 returns-in-Done c =
     let v = c.verdict-answered in
     let h = rw c.in-Done.is at v.ensures in
-    let n = length c.args.store.now in let both = (
-      rw (h.1, h.2.steps, h.2.clauses),
-      (rw h.1 (kept v.new.store _ _ h.0 n h.2 (search rules) c.clear_numbers.ensures), sound _ n h.0 h.1),
-    ) in record { replies = both.0; leaves = both.1; agrees = both.2 }
+    let n = length c.args.store.now in record { replies = rw (h.1, h.2.steps, h.2.clauses); leaves = rw h.1 (kept v.new.store _ _ h.0 n h.2 (search rules) c.clear_numbers.ensures); agrees = sound _ n h.0 h.1 }
 
 pub returns-in-Refused : goal.returns-in-Refused
 returns-in-Refused c =
     let v = c.verdict-answered in
     let h = rw c.in-Refused.is at v.ensures in
-    let both = (rw h, (rw h (cleared v.new.store _ (length c.args.store.now) (search rules) c.clear_numbers-in-Refused.ensures), tt)) in record { replies = both.0; leaves = both.1; agrees = both.2 }
+    record { replies = rw h; leaves = rw h (cleared v.new.store _ (length c.args.store.now) (search rules) c.clear_numbers-in-Refused.ensures); agrees = tt }

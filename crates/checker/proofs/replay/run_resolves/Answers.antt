@@ -72,7 +72,7 @@ loop-resolve-preserved c =
     let l = c.loop-resolve in
     let step = c.resolve_step-stepped in
     let e : length step.new.store ≡ length l.store = search rules in
-    (ran_joined l.inv.0 (ran_resolve a.room a.text.now l.c l.inv.0.inside (line_of) l.store l.p step.new.store _ l.inv.0.within e (λ s t. rw c.in-Done.is at (step.ensures s t))), omega (arith, l.inv.1))
+    (ran_joined l.invariant.0 (ran_resolve a.room a.text.now l.c l.invariant.0.inside (line_of) l.store l.p step.new.store _ l.invariant.0.within e (λ s t. rw c.in-Done.is at (step.ensures s t))), omega (arith, l.invariant.1))
 
 pub returns-in-Refused : goal.returns-in-Refused
 returns-in-Refused c =
@@ -80,4 +80,4 @@ returns-in-Refused c =
     let a = c.args in
     let l = c.loop-resolve in
     let step = c.resolve_step-stepped in
-    ran_refused l.inv.0 _ _ (resolve_refused a.room a.text.now l.c l.inv.0.inside (line_of) l.store l.p step.new.store _ (λ s t. rw c.in-Refused.is at (step.ensures s t)))
+    ran_refused l.invariant.0 _ _ (resolve_refused a.room a.text.now l.c l.invariant.0.inside (line_of) l.store l.p step.new.store _ (λ s t. rw c.in-Refused.is at (step.ensures s t)))

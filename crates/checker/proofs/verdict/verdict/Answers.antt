@@ -10,14 +10,13 @@ use Rattle.miter.specs.Miters.{begin_of}
 use Rattle.miter.proofs.ListLaws.{lists_of_lem}
 use Rattle.checker.proofs.VerdictLaws.{capacity_fits, unread, begin_refused, replay_refused, not_empty, accepted}
 use borrow.Author.Rules.{rules}
-use borrow.Enum.Refused.{opened}
 use Rattle.checker.proofs.verdict.verdict.Goals as goal
 
 pub returns-in_default : goal.returns-in_default
 returns-in_default c =
     let a = c.args in
     let got = c.read_both-lists in
-    rw c.refusal.ensures (unread a.text.now (length a.store.now) got.result got.ensures (opened c.in_default.in_default-own.keys2))
+    rw c.refusal.ensures (unread a.text.now (length a.store.now) got.result got.ensures c.in_default.in_default-own.keys2)
 
 pub begin-begun-requires : goal.begin-begun-requires
 begin-begun-requires c =

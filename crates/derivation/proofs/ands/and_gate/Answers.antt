@@ -18,7 +18,7 @@ returns-then-p-eq-FALSE c =
 pub returns-then-p-eq-TRUE : goal.returns-then-p-eq-TRUE
 returns-then-p-eq-TRUE c =
     record { few = few_more c.and_pass.ensures.few (omega arith); emits = and_case_lem c.args.d c.representative-p.ensures c.representative-q.ensures
-          (and_pass _ _ c.if-p-eq-FALSE.false (⊎_elim (λ w. rw (eq-eqb _ 1 w.taken)) (λ w. rw (w.3.taken, or-true)) c.then-p-eq-TRUE.branch))
+          (and_pass _ _ c.if-p-eq-FALSE.false (let h = c.then-p-eq-TRUE.branch in ?))
           c.and_pass.ensures.emits }
 
 pub returns-then-p-not_q : goal.returns-then-p-not_q

@@ -26,6 +26,5 @@ returns c =
     let n = c.representative.ensures in
     let g = c.resolve_on.ensures in record { few = g.few; emits = λ t links k h.
           emits_linked (rep_of t) (link_of links) (old a.c) a.l.code
-          (⊎_elim (λ w. rw (w.2.left, and-false)) (λ w. rw (ne_eqb (rep_of t a.l.code) a.l.code (λ e. w.left (n t k.rows (omega arith) ∙ e))))
-          c.else-representative-l.branch)
+          (let h = c.else-representative-l.branch in ?)
           (rw (c.link.ensures links k.numbers h) at g.emits) }
