@@ -8,6 +8,7 @@ use Rattle.derivation.proofs.EmitLaws.{few_more}
 use Rattle.derivation.proofs.CaseLaws.{and_false, and_pass, and_opposite, and_pair_lem, and_case_lem}
 use borrow.Author.Rules.{rules}
 use Rattle.derivation.proofs.ands.and_gate.Goals as goal
+use Rattle.derivation.proofs.ands.and_gate.Goals.{then-p-eq-TRUE-via-then-p-eq-TRUE, then-p-eq-TRUE-via-else-p-eq-TRUE+then-p-q}
 
 pub returns-then-p-eq-FALSE : goal.returns-then-p-eq-FALSE
 returns-then-p-eq-FALSE c =
@@ -18,7 +19,10 @@ returns-then-p-eq-FALSE c =
 pub returns-then-p-eq-TRUE : goal.returns-then-p-eq-TRUE
 returns-then-p-eq-TRUE c =
     record { few = few_more c.and_pass.ensures.few (omega arith); emits = and_case_lem c.args.d c.representative-p.ensures c.representative-q.ensures
-          (and_pass _ _ c.if-p-eq-FALSE.false (let h = c.then-p-eq-TRUE.branch in ?))
+          (and_pass _ _ c.if-p-eq-FALSE.false (elim c.then-p-eq-TRUE.branch [
+            then-p-eq-TRUE-via-then-p-eq-TRUE w ↦ rw (eq-eqb _ 1 w.if-p-eq-TRUE.true)
+            | then-p-eq-TRUE-via-else-p-eq-TRUE+then-p-q w ↦ rw (w.if-p-q.true-raw, or-true)
+          ]))
           c.and_pass.ensures.emits }
 
 pub returns-then-p-not_q : goal.returns-then-p-not_q

@@ -11,6 +11,7 @@ use Rattle.derivation.proofs.EmitLaws.{few_old, emits_old}
 use Rattle.derivation.proofs.SubstLaws.{emits_own, emits_linked}
 use borrow.Author.Rules.{rules}
 use Rattle.derivation.proofs.subst.subst1.Goals as goal
+use Rattle.derivation.proofs.subst.subst1.Goals.{else-representative-l-via-then-representative-l+else-l-ge2, else-representative-l-via-else-representative-l}
 
 pub returns-then-l-ge2 : goal.returns-then-l-ge2
 returns-then-l-ge2 c =
@@ -26,5 +27,8 @@ returns c =
     let n = c.representative.ensures in
     let g = c.resolve_on.ensures in record { few = g.few; emits = λ t links k h.
           emits_linked (rep_of t) (link_of links) (old a.c) a.l.code
-          (let h = c.else-representative-l.branch in ?)
+          (elim c.else-representative-l.branch [
+            else-representative-l-via-then-representative-l+else-l-ge2 w ↦ rw (w.if-l-ge2.false-raw, and-false)
+            | else-representative-l-via-else-representative-l w ↦ rw (ne_eqb (rep_of t a.l.code) a.l.code (λ e. w.if-representative-l.false (n t k.rows (omega arith) ∙ e)))
+          ])
           (rw (c.link.ensures links k.numbers h) at g.emits) }
