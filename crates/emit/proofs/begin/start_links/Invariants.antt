@@ -1,0 +1,23 @@
+-- The invariant: the numbers of net 0 and of the inputs below k stand, and rows in front stayed.
+use Prim.Native.Nat.{ℕ, ◌-◌, ◌*◌, ◌≤◌}
+use mathlib.Core.Path.{◌≡◌, refl, ◌∙◌, subst}
+use mathlib.Core.List.{List, [], ◌∷◌}
+use native.Mathlib.Omega.{arith}
+use lib.ListN.{length, length-replicate}
+use Rattle.fold_laws.specs.Table.{Entry}
+use Rattle.table.specs.Rows.{row_width, HoldsTable}
+use Rattle.table.specs.Links.{Keeps}
+use Rattle.emit_laws.specs.Emit.{start_links}
+use Rattle.emit.proofs.BeginLaws.{keeps_none, start_more}
+use borrow.Author.Rules.{rules}
+use Rattle.emit.proofs.begin.start_links.Given as goal
+
+abbrev pub invariant-loop-k : goal.invariant-loop-k
+invariant-loop-k l =
+    (l.k ≤ l.inputs)
+    × (length l.work ≡ length l.initial.work)
+    × Keeps l.work l.start (start_links l.k)
+    × ((t : List Entry) → HoldsTable l.initial.work t → row_width * length t ≤ l.start → HoldsTable l.work t)
+
+abbrev pub decreases-loop-k : goal.decreases-loop-k
+decreases-loop-k l = l.inputs - l.k

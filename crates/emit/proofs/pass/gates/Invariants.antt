@@ -1,0 +1,30 @@
+-- The invariant: the lines of the gates below i are written, and what is left of the loop makes up the whole (`PassLaws`).
+use Prim.Native.Nat.{◌+◌, ◌-◌, ◌*◌, ◌<◌, ◌≤◌}
+use mathlib.Core.Path.{◌≡◌, refl, ◌∙◌}
+use mathlib.Core.List.{List}
+use native.Mathlib.Omega.{arith}
+use lib.ListN.{length}
+use Rattle.model.specs.Limits.{lines_per_gate}
+use Rattle.model.specs.Miter.{first_gate, gates_of}
+use Rattle.laws.specs.MiterOrder.{length_gates}
+use Rattle.fold_laws.specs.Table.{Entry}
+use Rattle.emit_laws.specs.Emit.{start_links}
+use Rattle.miter.specs.Miters.{PairStands}
+use Rattle.derivation.specs.Known.{Known}
+use Rattle.emit.proofs.PassLaws.{UpTo, up_to_none, up_to_next, reads_done, up_to_all}
+use borrow.Author.Rules.{rules}
+use Rattle.emit.proofs.pass.gates.Given as goal
+
+abbrev pub invariant-loop-i : goal.invariant-loop-i
+invariant-loop-i l =
+    (l.i ≤ l.total)
+    × (length l.work ≡ length l.initial.work)
+    × (length l.proof ≡ length l.initial.proof)
+    × (l.done.lines ≤ l.initial.done.lines + lines_per_gate * l.i)
+    × (l.done.clauses ≤ l.initial.done.clauses + lines_per_gate * l.i)
+    × (l.done.next ≤ l.initial.done.next + 4 * l.i)
+    × ((w : PairStands l.text l.pair) (t : List Entry) → Known l.initial.work l.start t (start_links l.pair.inputs)
+    → length t ≡ 1 + l.pair.inputs + l.pair.left + l.pair.right → UpTo l.initial.proof l.initial.done l.proof l.work l.start l.done t w.left w.right l.i)
+
+abbrev pub decreases-loop-i : goal.decreases-loop-i
+decreases-loop-i l = l.total - l.i

@@ -1,0 +1,8 @@
+-- The line is written, since a report has digits for its line number, and each frame's line has its place.
+use Rattle.printed.proofs.PrintLaws.{frame_printed}
+use borrow.Author.Rules.{rules}
+use Rattle.printed.proofs.frame_line.Goals as goal
+
+pub returns : goal.returns
+returns c =
+    frame_printed c.args.frame c.requires _ _ c.write_frame.ensures.leaves c.line_len.ensures
