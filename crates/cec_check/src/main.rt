@@ -3,21 +3,18 @@
 
 mod report; // a stream's report
 
-use libc::STDERR_FILENO;
 use report::report;
-use streams::{Stream, print, read_stream, room};
+use streams::{Stream, complain, print, read_stream, room};
 
-fn main() {
+fn main(rt: HostRuntime) {
     let mut stream = room();
-    let Stream::Read(n) = read_stream(&mut stream) else {
-        io::write_all(
-            STDERR_FILENO,
-            b"cec_check: standard input was not read to its end\n",
-        );
+    let Stream::Read(n) = read_stream(&rt, &mut stream) else {
+        complain(&rt, b"cec_check: standard input was not read to its end\n");
         return;
     };
     let line = report(&stream[..n]);
     print(
+        &rt,
         &line,
         b"cec_check: standard output was not written to its end\n",
     );

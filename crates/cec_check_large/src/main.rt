@@ -6,9 +6,8 @@ mod report; // a stream's report
 
 ghost use Rattle.std.specs.Prelude.{◌≡◌, length};
 
-use libc::STDERR_FILENO;
 use report::report;
-use streams::{Stream, print, read_stream};
+use streams::{Stream, complain, print, read_stream};
 
 // One byte more than a stream may have, so that a longer one is seen without being read to its end.
 fn room() -> [u8; 4194305]
@@ -17,17 +16,18 @@ fn room() -> [u8; 4194305]
     [0; 4194305]
 }
 
-fn main() {
+fn main(rt: HostRuntime) {
     let mut stream = room();
-    let Stream::Read(n) = read_stream(&mut stream) else {
-        io::write_all(
-            STDERR_FILENO,
+    let Stream::Read(n) = read_stream(&rt, &mut stream) else {
+        complain(
+            &rt,
             b"cec_check_large: standard input was not read to its end\n",
         );
         return;
     };
     let line = report(&stream[..n]);
     print(
+        &rt,
         &line,
         b"cec_check_large: standard output was not written to its end\n",
     );

@@ -6,46 +6,46 @@ mod answer; // a stream's answer
 mod pattern; // the argument's pattern
 
 use answer::answer;
-use libc::STDERR_FILENO;
 use pattern::{PATTERN_DIGITS, Pattern, pattern_of};
-use streams::{Stream, print, read_stream, room};
+use std::env::{Env, FillError};
+use streams::{Stream, complain, print, read_stream, room};
 
-// The pattern of the one argument. An argument that is longer than a pattern comes as none.
-fn argument() -> Pattern {
-    if os::arg_count() != 2 {
-        return Pattern::Wrong;
-    }
+// The pattern of the one argument. An argument that is longer than a pattern is none.
+fn argument(rt: &HostRuntime) -> Pattern {
     let mut digits = [0u8; PATTERN_DIGITS];
-    let n = os::arg(1, &mut digits);
+    let Err(FillError::NotPresent) = rt.arg(2, &mut digits) else {
+        return Pattern::Wrong;
+    };
+    let Ok(n) = rt.arg(1, &mut digits) else {
+        return Pattern::Wrong;
+    };
     pattern_of(&digits[..n])
 }
 
 // Prints the answer to a stream.
-fn run(stream: &[u8], pattern: u64) {
+fn run(rt: &HostRuntime, stream: &[u8], pattern: u64) {
     let answered = answer(stream, pattern);
     let line = answered.line;
     let len = answered.len;
     print(
+        rt,
         &line[..len],
         b"cec_eval: standard output was not written to its end\n",
     );
 }
 
-fn main() {
-    let Pattern::Bits(pattern) = argument() else {
-        io::write_all(
-            STDERR_FILENO,
+fn main(rt: HostRuntime) {
+    let Pattern::Bits(pattern) = argument(&rt) else {
+        complain(
+            &rt,
             b"cec_eval: its one argument is a pattern of 16 digits 0-9 and A-F\n",
         );
         return;
     };
     let mut stream = room();
-    let Stream::Read(n) = read_stream(&mut stream) else {
-        io::write_all(
-            STDERR_FILENO,
-            b"cec_eval: standard input was not read to its end\n",
-        );
+    let Stream::Read(n) = read_stream(&rt, &mut stream) else {
+        complain(&rt, b"cec_eval: standard input was not read to its end\n");
         return;
     };
-    run(&stream[..n], pattern);
+    run(&rt, &stream[..n], pattern);
 }

@@ -5,28 +5,25 @@
 mod answer; // a stream's answer
 
 use answer::answer;
-use libc::STDERR_FILENO;
-use streams::{Stream, print, read_stream, room};
+use streams::{Stream, complain, print, read_stream, room};
 
 // Prints the answer to a stream.
-fn run(stream: &[u8]) {
+fn run(rt: &HostRuntime, stream: &[u8]) {
     let answered = answer(stream);
     let line = answered.line;
     let len = answered.len;
     print(
+        rt,
         &line[..len],
         b"cec_list: standard output was not written to its end\n",
     );
 }
 
-fn main() {
+fn main(rt: HostRuntime) {
     let mut stream = room();
-    let Stream::Read(n) = read_stream(&mut stream) else {
-        io::write_all(
-            STDERR_FILENO,
-            b"cec_list: standard input was not read to its end\n",
-        );
+    let Stream::Read(n) = read_stream(&rt, &mut stream) else {
+        complain(&rt, b"cec_list: standard input was not read to its end\n");
         return;
     };
-    run(&stream[..n]);
+    run(&rt, &stream[..n]);
 }

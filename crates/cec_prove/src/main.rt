@@ -5,29 +5,27 @@
 mod evidence; // what is printed for a stream
 
 use evidence::{PROOF_BYTES, WORKING_NUMBERS, evidence};
-use libc::{STDERR_FILENO, STDOUT_FILENO};
-use streams::{Stream, read_stream, room};
+use std::io::Write;
+use streams::{Stream, complain, read_stream, room};
 
 // Both parts of what is printed, and a message where they could not be written.
-fn print(lists: &[u8], behind: &[u8]) {
-    if io::write_all(STDOUT_FILENO, lists) {
-        if io::write_all(STDOUT_FILENO, behind) {
+fn print(rt: &HostRuntime, lists: &[u8], behind: &[u8]) {
+    let mut output = rt.stdout();
+    if output.write_all(lists).is_ok() {
+        if output.write_all(behind).is_ok() {
             return;
         }
     }
-    io::write_all(
-        STDERR_FILENO,
+    complain(
+        rt,
         b"cec_prove: standard output was not written to its end\n",
     );
 }
 
-fn main() {
+fn main(rt: HostRuntime) {
     let mut stream = room();
-    let Stream::Read(n) = read_stream(&mut stream) else {
-        io::write_all(
-            STDERR_FILENO,
-            b"cec_prove: standard input was not read to its end\n",
-        );
+    let Stream::Read(n) = read_stream(&rt, &mut stream) else {
+        complain(&rt, b"cec_prove: standard input was not read to its end\n");
         return;
     };
     let mut out = [0u8; PROOF_BYTES];
@@ -35,5 +33,5 @@ fn main() {
     let printed = evidence(&stream[..n], &mut out, &mut work);
     let lists = printed.lists;
     let behind = printed.behind;
-    print(&stream[..lists], &out[..behind]);
+    print(&rt, &stream[..lists], &out[..behind]);
 }

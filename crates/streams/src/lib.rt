@@ -4,7 +4,7 @@
 ghost use Rattle.std.specs.Prelude.{◌≡◌, length};
 ghost use Rattle.streams.specs.Streams.{Within};
 
-use libc::{STDERR_FILENO, STDIN_FILENO, STDOUT_FILENO};
+use std::io::{Read, Write};
 
 // The most bytes that a program takes (document 01, refusal 1).
 pub const STREAM_BYTES: usize = 65536;
@@ -26,16 +26,15 @@ pub enum Stream {
 }
 
 // Reads standard input to the start of the buffer, until the stream ends or the buffer is full.
-pub fn read_stream(buf: &mut [u8]) -> Stream
+pub fn read_stream(rt: &HostRuntime, buf: &mut [u8]) -> Stream
     ensures { Within result buf.new }
 {
+    let mut input = rt.stdin();
     let mut done = 0;
     while done < buf.len() {
-        let got = libc::read(STDIN_FILENO, &mut buf[done..]);
-        if got < 0 {
+        let Ok(more) = input.read(&mut buf[done..]) else {
             return Stream::Failed;
-        }
-        let more = io::count(got, &buf[done..]);
+        };
         if more == 0 {
             return Stream::Read(done);
         }
@@ -45,9 +44,13 @@ pub fn read_stream(buf: &mut [u8]) -> Stream
 }
 
 // Writes a program's answer, and where that fails its message on standard error.
-pub fn print(answer: &[u8], unwritten: &[u8]) {
-    if io::write_all(STDOUT_FILENO, answer) {
-        return;
+pub fn print(rt: &HostRuntime, answer: &[u8], unwritten: &[u8]) {
+    if rt.stdout().write_all(answer).is_err() {
+        complain(rt, unwritten);
     }
-    io::write_all(STDERR_FILENO, unwritten);
+}
+
+// Writes a message on standard error. Where that fails too, nobody is left to be told.
+pub fn complain(rt: &HostRuntime, message: &[u8]) {
+    let _ = rt.stderr().write_all(message);
 }

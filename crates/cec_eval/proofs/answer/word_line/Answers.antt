@@ -1,0 +1,7 @@
+-- The digits and the LF are stored at the start of zeros.
+use Rattle.cec_eval.proofs.LineLaws.{word_printed}
+use borrow.Author.Rules.{rules}
+use Rattle.cec_eval.proofs.answer.word_line.Goals as goal
+
+pub returns : goal.returns
+returns c = word_printed c.args.word c.put_hex.new.out c.put_hex.ensures.1
