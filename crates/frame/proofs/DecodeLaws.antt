@@ -10,7 +10,7 @@ use lib.Seq.{drop-drop}
 use borrow.Author.Tests.{eq-eqb, ne_eqb}
 use Rattle.model.specs.Answers.{guard}
 use Rattle.model.specs.Answers.Answer.{ok, refused}
-use Rattle.model.specs.Frames.{widths, is_kind, number, total, split, decode_as, decode, one_byte}
+use Rattle.model.specs.Frames.{widths, is_kind, total, split, decode_as, decode, one_byte}
 use Rattle.digits.specs.Digits.{values, number_at}
 
 -- the fields of these widths, from a place on

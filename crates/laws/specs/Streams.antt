@@ -4,7 +4,7 @@ use Rattle.std.proofs.Common.{sym, arith, leb-true, le-leb}
 use Rattle.std.proofs.lemmas.Bool.{lt-leb}
 use Rattle.model.specs.Limits.{highest_line}
 use Rattle.model.specs.Answers.{Answer, guard}
-use Rattle.model.specs.Answers.Answer.{ok, refused}
+use Rattle.model.specs.Answers.Answer.{refused}
 use Rattle.model.specs.Checker.{limited}
 use Rattle.laws.specs.Answers.{refused_not_ok}
 use Rattle.laws.specs.Places.{Placed, placed_guard, raised}

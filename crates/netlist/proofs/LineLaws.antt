@@ -24,7 +24,7 @@ use Rattle.frame.specs.declared.Line.{Line}
 use Rattle.frame.specs.declared.Line.TheVariants.{Read, End, Refused}
 use Rattle.frame.specs.Frames.{gate_kind, frame_of, first, first_of, Inside}
 use Rattle.frame.proofs.FirstLaws.{first_none, first_fault, first_found, Framed}
-use Rattle.netlist.specs.Says.{from, refusal, answer_of, missing_of, HeaderRead, GateRead, OutputRead}
+use Rattle.netlist.specs.Says.{from, answer_of, missing_of, HeaderRead, GateRead, OutputRead}
 use Rattle.netlist.proofs.DueLaws.{guard_passed, guard_failed, due_other, due_read, header_due, gate_due, output_due}
 
 -- what follows a test follows inside it

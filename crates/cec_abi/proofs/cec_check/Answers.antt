@@ -2,7 +2,6 @@
 use lib.ListN.{length}
 use Rattle.model.specs.Checker.{check}
 use Rattle.cec_abi.proofs.ReplyLaws.{agrees}
-use borrow.Author.Rules.{rules}
 use Rattle.cec_abi.proofs.cec_check.Goals as goal
 
 pub returns : goal.returns

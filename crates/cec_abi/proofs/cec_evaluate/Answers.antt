@@ -1,7 +1,6 @@
 -- The reply is that of the evaluator's answer, and the working bytes are as it leaves them.
 use mathlib.Core.Path.{ap, ◌∙◌}
 use Rattle.cec_abi.specs.Replies.{number_reply}
-use borrow.Author.Rules.{rules}
 use Rattle.cec_abi.proofs.cec_evaluate.Goals as goal
 
 pub returns : goal.returns

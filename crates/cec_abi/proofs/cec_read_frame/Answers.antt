@@ -1,7 +1,6 @@
 -- The reply is that of the reader's answer, and the answer is the lone line's.
 use mathlib.Core.Path.{ap, ◌∙◌}
 use Rattle.cec_abi.specs.Replies.{frame_reply}
-use borrow.Author.Rules.{rules}
 use Rattle.cec_abi.proofs.cec_read_frame.Goals as goal
 
 pub returns : goal.returns

@@ -1,6 +1,5 @@
 -- The reply is that of the reader's counts, and they are the one list's.
 use Rattle.model.specs.Lists.{read_one}
-use borrow.Author.Rules.{rules}
 use Rattle.cec_abi.proofs.cec_read_list.Goals as goal
 
 pub returns : goal.returns

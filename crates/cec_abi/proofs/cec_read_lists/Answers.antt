@@ -1,6 +1,5 @@
 -- The reply is that of the reader's counts, and they are the two lists'.
 use Rattle.model.specs.Lists.{read_lists}
-use borrow.Author.Rules.{rules}
 use Rattle.cec_abi.proofs.cec_read_lists.Goals as goal
 
 pub returns : goal.returns

@@ -1,7 +1,6 @@
 -- The answer is the frame that the kind and the numbers make, and the rest is the calls' own.
 use mathlib.Core.Path.{ap, ◌∙◌}
 use Rattle.cec_abi.specs.Replies.{number_reply}
-use borrow.Author.Rules.{rules}
 use Rattle.cec_abi.proofs.cec_write_frame.Goals as goal
 
 pub returns : goal.returns

@@ -2,7 +2,6 @@
 use mathlib.Core.Path.{refl}
 use lib.ListN.{length}
 use Rattle.clearing.proofs.ClearLaws.{cleared}
-use borrow.Author.Rules.{rules}
 use Rattle.cec_abi.proofs.write_answer.Goals as goal
 
 pub returns-in-Framed : goal.returns-in-Framed

@@ -1,7 +1,6 @@
 -- What was read lies within the buffer.
 use mathlib.Core.Path.{sym}
 use lib.Seq.{length-take-le}
-use borrow.Author.Rules.{rules}
 use Rattle.cec_eval.proofs.main.Goals as goal
 
 pub slice_bounds-stream-end : goal.slice_bounds-stream-end

@@ -2,7 +2,6 @@
 use mathlib.Core.Path.{sym}
 use lib.Seq.{length-take-le}
 use Rattle.printed.proofs.PrintLaws.{printed_within}
-use borrow.Author.Rules.{rules}
 use Rattle.cec_list.proofs.run.Goals as goal
 
 pub slice_bounds-line-end : goal.slice_bounds-line-end

@@ -1,9 +1,6 @@
 -- The invariant is `Clearing`: what lies before the loop's place and zeros behind it are what is due. The measure is what is left.
-use Prim.Native.Nat.{◌-◌}
 use native.Mathlib.Omega.{arith}
-use borrow.Author.Rules.{rules}
-use lib.ListN.{length}
-use Rattle.clearing.proofs.ClearLaws.{Clearing, begun, one_more, ended}
+use Rattle.clearing.proofs.ClearLaws.{begun, one_more, ended}
 use Rattle.clearing.proofs.clear_bytes.Goals as goal
 
 pub loop-at-init : goal.loop-at-init

@@ -1,9 +1,7 @@
 -- The invariant is `Clearing`: what lies before the loop's place and zeros behind it are what is due. The measure is what is left.
 use Prim.Native.Nat.{◌-◌}
-use native.Mathlib.Omega.{arith}
-use borrow.Author.Rules.{rules}
 use lib.ListN.{length}
-use Rattle.clearing.proofs.ClearLaws.{Clearing, begun, one_more, ended}
+use Rattle.clearing.proofs.ClearLaws.{Clearing}
 use Rattle.clearing.proofs.clear_bytes.Given as goal
 
 abbrev pub invariant-loop-at : goal.invariant-loop-at

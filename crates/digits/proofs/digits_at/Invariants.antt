@@ -1,13 +1,9 @@
 -- The invariant: the digits from `at` on are those passed and those from i on. The loop ends at the first byte that is no digit, or at the
 -- end; the measure is what is left of the text.
-use native.Mathlib.Omega.{arith}
-use borrow.Author.Rules.{rules}
-use borrow.Author.Tests.{not-true, not-false}
-use mathlib.Core.Path.{◌≡◌, sym, ◌∙◌}
+use mathlib.Core.Path.{◌≡◌}
 use Prim.Native.Nat.{◌≤◌, ◌+◌, ◌-◌}
 use lib.ListN.{length, drop}
 use Rattle.digits.specs.Digits.{run}
-use Rattle.digits.proofs.DigitLaws.{run_stop, run_more, run_end}
 use Rattle.digits.proofs.digits_at.Given as goal
 
 abbrev pub invariant-loop-i : goal.invariant-loop-i

@@ -3,7 +3,6 @@ use lib.ListN.{length}
 use Rattle.netlist.proofs.ReplyLaws.{TwoLists, two_lists}
 use Rattle.miter.proofs.ListLaws.{lists_of_lem}
 use Rattle.engine.proofs.AnswerLaws.{unread, answered}
-use borrow.Author.Rules.{rules}
 use Rattle.engine.proofs.answer.Goals as goal
 
 pub returns-in_default : goal.returns-in_default

@@ -3,7 +3,6 @@ use mathlib.Core.Path.{refl}
 use lib.ListN.{length}
 use Rattle.clearing.proofs.ClearLaws.{cleared}
 use Rattle.engine.proofs.AnswerLaws.{due_16, due_17, due_18, due_proof, none_written}
-use borrow.Author.Rules.{rules}
 use Rattle.engine.proofs.folded.Goals as goal
 
 pub returns-then-proof-bound : goal.returns-then-proof-bound

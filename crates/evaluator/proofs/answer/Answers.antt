@@ -3,7 +3,6 @@ use native.Mathlib.Omega.{arith}
 use lib.ListN.{length}
 use Rattle.netlist.proofs.ReplyLaws.{OneList, one_list, one_none}
 use Rattle.evaluator.proofs.AnswerLaws.{text_refused, work_short, evaluated}
-use borrow.Author.Rules.{rules}
 use Rattle.evaluator.proofs.answer.Goals as goal
 
 pub returns-in_default : goal.returns-in_default

@@ -1,5 +1,4 @@
 -- The inputs, the gates and the outputs in turn: each contract takes up where the last one ends.
-use borrow.Author.Rules.{rules}
 use Rattle.evaluator.proofs.word_of.Goals as goal
 
 pub returns : goal.returns

@@ -2,7 +2,6 @@
 use mathlib.Core.Path.{sym}
 use native.Mathlib.Omega.{arith}
 use Rattle.frame.proofs.LineLaws.{read_open, read_other, read_unframed}
-use borrow.Author.Rules.{rules}
 use Rattle.frame.proofs.fault_at.Goals as goal
 
 pub returns-then-end-text : goal.returns-then-end-text

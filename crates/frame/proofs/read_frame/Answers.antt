@@ -1,6 +1,5 @@
 -- What stands first is read, and then what stands behind it (`LoneLaws`); each arm knows which case of the enum it has.
 use Rattle.frame.proofs.LoneLaws.{lone, lone_behind}
-use borrow.Author.Rules.{rules}
 use Rattle.frame.proofs.read_frame.Goals as goal
 
 pub read_line-behind-requires : goal.read_line-behind-requires

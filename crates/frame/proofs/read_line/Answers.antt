@@ -1,7 +1,6 @@
 -- The line has a frame, and the cursor behind it is in the text with a line that has not outrun it; or it has none.
 use native.Mathlib.Omega.{arith}
 use Rattle.frame.proofs.FieldLaws.{look_framed, look_unframed, nowhere}
-use borrow.Author.Rules.{rules}
 use Rattle.frame.proofs.read_line.Goals as goal
 
 pub returns-in-Is : goal.returns-in-Is

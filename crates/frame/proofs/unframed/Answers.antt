@@ -2,7 +2,6 @@
 use mathlib.Core.Path.{refl, sym}
 use native.Mathlib.Omega.{arith}
 use Rattle.frame.proofs.LineLaws.{read_end}
-use borrow.Author.Rules.{rules}
 use Rattle.frame.proofs.unframed.Goals as goal
 
 pub returns-then-at-text : goal.returns-then-at-text

@@ -3,13 +3,11 @@
 use mathlib.Core.Path.{refl, sym, ap, ◌∙◌}
 use native.Mathlib.Nat.{zero-add}
 use native.Mathlib.Omega.{arith}
-use borrow.Author.Tests.{not-true, not-false}
 use Prim.Native.Nat.{ℕ}
 use lib.ListN.{length, length-replicate}
 use Rattle.frame.specs.Frames.{frame_of}
 use Rattle.clearing.proofs.ClearLaws.{cleared}
 use Rattle.frame.proofs.WriteLaws.{write_unfit, write_short, write_done}
-use borrow.Author.Rules.{rules}
 use Rattle.frame.proofs.write_frame.Goals as goal
 
 pub returns-then-not-line_number_fits : goal.returns-then-not-line_number_fits

@@ -10,7 +10,6 @@ use Rattle.listing.specs.Listing.{no_gate}
 use Rattle.frame.proofs.WriteLaws.{operands_widths}
 use mathlib.Core.Bool.{false}
 use Rattle.listing.proofs.PlaceLaws.{beyond, framed_there, gate_there, line_there, gate_place, gate_is}
-use borrow.Author.Rules.{rules}
 use borrow.Enum.Refused.{opened}
 use Rattle.listing.proofs.gate_at.Goals as goal
 

@@ -8,7 +8,6 @@ use Rattle.laws.specs.Pairs.{is_xor}
 use Rattle.laws.specs.ListText.{header_bytes, gate_bytes}
 use Rattle.listing.specs.Listing.{no_gate}
 use Rattle.listing.proofs.PlaceLaws.{beyond, kind_there, gate_there, gate_place, op_is}
-use borrow.Author.Rules.{rules}
 use borrow.Enum.Refused.{opened}
 use Rattle.listing.proofs.op_at.Goals as goal
 

@@ -5,7 +5,6 @@ use native.Mathlib.Omega.{arith}
 use Rattle.model.specs.Frames.{Frame, field, output_kind, widths}
 use Rattle.laws.specs.ListText.{header_bytes, gate_bytes, output_bytes}
 use Rattle.listing.proofs.PlaceLaws.{beyond, framed_there, output_there, line_there, output_place}
-use borrow.Author.Rules.{rules}
 use borrow.Enum.Refused.{opened}
 use Rattle.listing.proofs.output_at.Goals as goal
 

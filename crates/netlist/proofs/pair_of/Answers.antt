@@ -3,7 +3,6 @@ use Prim.Native.Nat.{ℕ, ◌+◌}
 use mathlib.Core.Path.{ap}
 use native.Mathlib.Omega.{arith}
 use Rattle.netlist.proofs.ListLaws.{pair_is}
-use borrow.Author.Rules.{rules}
 use Rattle.netlist.proofs.pair_of.Goals as goal
 
 pub returns : goal.returns

@@ -1,9 +1,6 @@
 -- The left list's answer, then the right one's, and the pair of their counts (`ListLaws`).
-use Prim.Native.Nat.{ℕ}
-use mathlib.Core.List.{List}
 use Rattle.netlist.specs.Says.{PartRead}
 use Rattle.netlist.proofs.ListLaws.{left_refused, right_refused_both, few, few_right, both_paired}
-use borrow.Author.Rules.{rules}
 use Rattle.netlist.proofs.read_both.Goals as goal
 
 pub returns-in_default : goal.returns-in_default

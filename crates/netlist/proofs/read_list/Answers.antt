@@ -1,6 +1,5 @@
 -- The list's answer and then the end's (`ListLaws`).
 use Rattle.netlist.proofs.ListLaws.{one_refused, one_more, one_read}
-use borrow.Author.Rules.{rules}
 use Rattle.netlist.proofs.read_list.Goals as goal
 
 pub returns-in_default : goal.returns-in_default

@@ -1,13 +1,10 @@
 -- Both lists' answer and then the end's (`ListLaws`).
-use Prim.Native.Nat.{ℕ}
 use mathlib.Core.Path.{◌≡◌}
-use mathlib.Core.List.{List}
 use Rattle.model.specs.Answers.Answer.{ok}
 use Rattle.model.specs.Lists.{read_both}
 use Rattle.netlist.specs.Replies.{both_of}
 use Rattle.netlist.proofs.ReplyLaws.{both_lists}
 use Rattle.netlist.proofs.ListLaws.{lists_refused, lists_more, lists_alone}
-use borrow.Author.Rules.{rules}
 use Rattle.netlist.proofs.read_lists.Goals as goal
 
 pub returns-in_default : goal.returns-in_default

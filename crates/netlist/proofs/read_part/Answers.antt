@@ -2,7 +2,6 @@
 use mathlib.Core.Path.{refl}
 use Rattle.model.specs.Lists.{any_header}
 use Rattle.netlist.proofs.ListLaws.{list_refused, part_read}
-use borrow.Author.Rules.{rules}
 use Rattle.netlist.proofs.read_part.Goals as goal
 
 pub returns-in_default : goal.returns-in_default

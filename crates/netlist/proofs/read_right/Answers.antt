@@ -2,7 +2,6 @@
 use Rattle.model.specs.Lists.{like_left}
 use Rattle.netlist.specs.Says.{HeaderRead}
 use Rattle.netlist.proofs.ListLaws.{unlike_inputs, unlike_outputs, right_refused, right_read}
-use borrow.Author.Rules.{rules}
 use Rattle.netlist.proofs.read_right.Goals as goal
 
 pub returns-in_default : goal.returns-in_default

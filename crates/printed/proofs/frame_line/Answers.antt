@@ -1,6 +1,5 @@
 -- The line is written, since a report has digits for its line number, and each frame's line has its place.
 use Rattle.printed.proofs.PrintLaws.{frame_printed}
-use borrow.Author.Rules.{rules}
 use Rattle.printed.proofs.frame_line.Goals as goal
 
 pub returns : goal.returns

@@ -3,7 +3,6 @@ use mathlib.Core.Path.{◌∙◌, ap}
 use native.Mathlib.Omega.{arith}
 use Rattle.model.specs.Frames.{line_of}
 use Rattle.reports.proofs.ReportLaws.{accepted_report, refused_report}
-use borrow.Author.Rules.{rules}
 use Rattle.reports.proofs.line_of.Goals as goal
 
 pub overflow_cast-steps : goal.overflow_cast-steps

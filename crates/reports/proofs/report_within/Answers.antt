@@ -2,7 +2,6 @@
 use lib.ListN.{length}
 use Rattle.model.specs.Checker.{judge}
 use Rattle.reports.proofs.ReportLaws.{judge_fits}
-use borrow.Author.Rules.{rules}
 use Rattle.reports.proofs.report_within.Goals as goal
 
 pub line_of-requires : goal.line_of-requires

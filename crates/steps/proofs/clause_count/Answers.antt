@@ -1,6 +1,5 @@
 -- Each arm knows its gate.
 use Rattle.model.specs.Clauses.{and_clauses, xor_clauses}
-use borrow.Author.Rules.{rules}
 use Rattle.steps.proofs.clause_count.Goals as goal
 
 pub returns-in-And : goal.returns-in-And

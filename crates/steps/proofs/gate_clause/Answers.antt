@@ -1,6 +1,5 @@
 -- Each arm knows its gate.
 use Rattle.model.specs.Clauses.{and_clauses, xor_clauses}
-use borrow.Author.Rules.{rules}
 use Rattle.steps.proofs.gate_clause.Goals as goal
 
 pub and_clause-requires : goal.and_clause-requires

@@ -1,10 +1,9 @@
 -- The invariant: the store holds the clauses from before and the first j of the gate's (`HeldLaws`).
-use Prim.Native.Nat.{ℕ, ◌+◌, ◌-◌, ◌≤◌}
-use mathlib.Core.Path.{◌≡◌, refl, sym, subst}
+use Prim.Native.Nat.{ℕ, ◌+◌}
+use mathlib.Core.Path.{refl, sym, subst}
 use mathlib.Core.List.{List, ◌++◌, append-nil}
 use native.Mathlib.Omega.{arith}
-use borrow.Author.Rules.{rules}
-use lib.ListN.{length, take}
+use lib.ListN.{take}
 use lib.Seq.{length-sets, take_all}
 use Rattle.model.specs.Clauses.{Clause}
 use Rattle.steps.specs.Progress.{clauses_of, Held}

@@ -1,15 +1,10 @@
 -- The invariant: the store holds the clauses from before and the first j of the gate's (`HeldLaws`).
-use Prim.Native.Nat.{ℕ, ◌+◌, ◌-◌, ◌≤◌}
-use mathlib.Core.Path.{◌≡◌, refl, sym, subst}
-use mathlib.Core.List.{List, ◌++◌, append-nil}
-use native.Mathlib.Omega.{arith}
-use borrow.Author.Rules.{rules}
+use Prim.Native.Nat.{◌-◌, ◌≤◌}
+use mathlib.Core.Path.{◌≡◌}
+use mathlib.Core.List.{List, ◌++◌}
 use lib.ListN.{length, take}
-use lib.Seq.{length-sets, take_all}
 use Rattle.model.specs.Clauses.{Clause}
 use Rattle.steps.specs.Progress.{clauses_of, Held}
-use Rattle.clause.proofs.PlaceLaws.{holds_own}
-use Rattle.steps.proofs.HeldLaws.{proper_at, gate_proper, gate_saved}
 use Rattle.steps.proofs.push_gate.Given as goal
 
 abbrev pub invariant-loop-j : goal.invariant-loop-j

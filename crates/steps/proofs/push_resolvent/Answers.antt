@@ -8,7 +8,6 @@ use Rattle.model.specs.Limits.{clause_width}
 use Rattle.clause.specs.Sets.{Proper, literals_of}
 use Rattle.steps.specs.Progress.{Tracks}
 use Rattle.steps.proofs.StepLaws.{full, joined, joins, joined_tracks}
-use borrow.Author.Rules.{rules}
 use Rattle.steps.proofs.push_resolvent.Goals as goal
 
 pub returns-then-clauses-room : goal.returns-then-clauses-room

@@ -1,6 +1,5 @@
 -- The two clauses are parts of the store, which has them there as they are stored (`held_stored`).
 use Rattle.steps.proofs.HeldLaws.{bounds, held_stored}
-use borrow.Author.Rules.{rules}
 use Rattle.steps.proofs.resolve_at.Goals as goal
 
 pub returns : goal.returns

@@ -1,5 +1,4 @@
 -- What the resolve comes to is the answer at this line.
-use borrow.Author.Rules.{rules}
 use Rattle.steps.proofs.resolve_step.Goals as goal
 
 pub returns-in-Clause : goal.returns-in-Clause

@@ -1,6 +1,5 @@
 -- Each arm knows its gate, and its operation on bits is that of the definitions (`BitLaws`).
 use Rattle.values.proofs.BitLaws.{and_bits, xor_bits}
-use borrow.Author.Rules.{rules}
 use Rattle.values.proofs.gate_value.Goals as goal
 
 pub returns-in-And : goal.returns-in-And

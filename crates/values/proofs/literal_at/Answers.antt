@@ -4,7 +4,6 @@ use native.Mathlib.Omega.{arith}
 use Rattle.model.specs.Nets.{net_of}
 use Rattle.laws.specs.Literals.{bit_odd}
 use Rattle.values.proofs.BitLaws.{literal_bits}
-use borrow.Author.Rules.{rules}
 use Rattle.values.proofs.literal_at.Goals as goal
 
 pub returns : goal.returns

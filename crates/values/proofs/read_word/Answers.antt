@@ -1,16 +1,13 @@
 -- The outputs are taken from the last to the first. The invariant: the word so far is that of the outputs from k up, of whatever list stands at
 -- the place, and has no more bits than those; so it fits.
-use Prim.Native.Nat.{ℕ, suc, ◌+◌, ◌-◌, ◌*◌, ◌^◌, ◌≤◌, ◌<◌}
+use Prim.Native.Nat.{suc, ◌+◌, ◌-◌, ◌*◌, ◌<◌}
 use mathlib.Core.Path.{◌≡◌, ◌∙◌}
 use native.Mathlib.Omega.{arith}
-use borrow.Author.Rules.{rules}
-use lib.ListN.{length, drop}
-use Rattle.model.specs.Nets.{Netlist, literal, nets, eval}
-use Rattle.laws.specs.ListText.{Stands}
+use Rattle.model.specs.Nets.{literal, nets, eval}
 use Rattle.laws.specs.Values.{truths, length_nets}
-use Rattle.values.specs.Values.{IsBit, HoldsValues}
+use Rattle.values.specs.Values.{IsBit}
 use Rattle.values.proofs.ValueLaws.{output_read}
-use Rattle.values.proofs.BitLaws.{word_from, word_end, word_more, double, word_fits}
+use Rattle.values.proofs.BitLaws.{word_end, word_more, double, word_fits}
 use Rattle.values.proofs.read_word.Goals as goal
 
 pub loop-k-init : goal.loop-k-init

@@ -1,12 +1,10 @@
 -- The invariant: of whatever list stands at the place, the bytes hold the nets once its first k gates have run (`after`). Each gate reads
 -- nets below its own, so its literals have the values of the definition (`gate_stored`).
-use Prim.Native.Nat.{ℕ, ◌+◌, ◌-◌, ◌≤◌}
-use mathlib.Core.Path.{◌≡◌, refl, sym, ap, ◌∙◌, subst}
+use Prim.Native.Nat.{ℕ, ◌+◌}
+use mathlib.Core.Path.{refl, sym, ap, ◌∙◌, subst}
 use native.Mathlib.Omega.{arith}
-use borrow.Author.Rules.{rules}
-use lib.ListN.{length, drop, set, length-set}
-use Rattle.model.specs.Nets.{Netlist, literal, start}
-use Rattle.laws.specs.ListText.{Stands}
+use lib.ListN.{set, length-set}
+use Rattle.model.specs.Nets.{literal, start}
 use Rattle.laws.specs.Growing.{after, after_none, after_all}
 use Rattle.laws.specs.Values.{truths, gate_over, nets_truths, length_start}
 use Rattle.values.specs.Values.{IsBit, HoldsValues}

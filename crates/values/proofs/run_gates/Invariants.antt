@@ -1,16 +1,13 @@
 -- The invariant: of whatever list stands at the place, the bytes hold the nets once its first k gates have run (`after`). Each gate reads
 -- nets below its own, so its literals have the values of the definition (`gate_stored`).
-use Prim.Native.Nat.{ℕ, ◌+◌, ◌-◌, ◌≤◌}
-use mathlib.Core.Path.{◌≡◌, refl, sym, ap, ◌∙◌, subst}
-use native.Mathlib.Omega.{arith}
-use borrow.Author.Rules.{rules}
-use lib.ListN.{length, drop, set, length-set}
-use Rattle.model.specs.Nets.{Netlist, literal, start}
+use Prim.Native.Nat.{ℕ, ◌-◌, ◌≤◌}
+use mathlib.Core.Path.{◌≡◌}
+use lib.ListN.{length, drop}
+use Rattle.model.specs.Nets.{Netlist, start}
 use Rattle.laws.specs.ListText.{Stands}
-use Rattle.laws.specs.Growing.{after, after_none, after_all}
-use Rattle.laws.specs.Values.{truths, gate_over, nets_truths, length_start}
-use Rattle.values.specs.Values.{IsBit, HoldsValues}
-use Rattle.values.proofs.ValueLaws.{gate_stored}
+use Rattle.laws.specs.Growing.{after}
+use Rattle.laws.specs.Values.{truths, gate_over}
+use Rattle.values.specs.Values.{HoldsValues}
 use Rattle.values.proofs.run_gates.Given as goal
 
 abbrev pub invariant-loop-k : goal.invariant-loop-k

@@ -1,10 +1,8 @@
 -- The invariant: so many inputs are stored, and what is left of the pattern has the bits behind theirs (`Stored`).
 use Prim.Native.Nat.{◌+◌, ◌-◌, ◌≤◌}
-use mathlib.Core.Path.{◌≡◌, refl, ◌∙◌}
-use native.Mathlib.Omega.{arith}
-use borrow.Author.Rules.{rules}
-use lib.ListN.{length, length-set}
-use Rattle.values.proofs.BitLaws.{Stored, stored_none, stored_more}
+use mathlib.Core.Path.{◌≡◌}
+use lib.ListN.{length}
+use Rattle.values.proofs.BitLaws.{Stored}
 use Rattle.values.proofs.set_inputs.Given as goal
 
 abbrev pub invariant-loop-k : goal.invariant-loop-k

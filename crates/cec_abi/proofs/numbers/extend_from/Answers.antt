@@ -5,7 +5,6 @@ use mathlib.Core.List.{[], ◌∷◌}
 use Rattle.frame.specs.Frames.{extend_kind}
 use Rattle.cec_abi.specs.Calls.{fit}
 use Rattle.cec_abi.proofs.NumberLaws.{tests, operands_limits, framed, unfit}
-use borrow.Author.Rules.{rules}
 use Rattle.cec_abi.proofs.numbers.extend_from.Goals as goal
 
 pub returns-then-x-gt65535 : goal.returns-then-x-gt65535

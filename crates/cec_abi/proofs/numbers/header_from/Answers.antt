@@ -4,7 +4,6 @@ use mathlib.Core.List.{[], ◌∷◌}
 use Rattle.model.specs.Frames.{widths, header_kind}
 use Rattle.cec_abi.specs.Calls.{limits, fit}
 use Rattle.cec_abi.proofs.NumberLaws.{tests, framed, unfit}
-use borrow.Author.Rules.{rules}
 use Rattle.cec_abi.proofs.numbers.header_from.Goals as goal
 
 pub returns-then-inputs-gt255 : goal.returns-then-inputs-gt255

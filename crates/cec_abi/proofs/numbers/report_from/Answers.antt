@@ -5,7 +5,6 @@ use mathlib.Core.List.{[], ◌∷◌}
 use Rattle.model.specs.Frames.{widths, report_kind}
 use Rattle.cec_abi.specs.Calls.{limits, fit}
 use Rattle.cec_abi.proofs.NumberLaws.{tests, framed, unfit}
-use borrow.Author.Rules.{rules}
 use Rattle.cec_abi.proofs.numbers.report_from.Goals as goal
 
 pub returns-then-refusal-gt255 : goal.returns-then-refusal-gt255

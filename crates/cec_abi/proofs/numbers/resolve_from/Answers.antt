@@ -4,7 +4,6 @@ use mathlib.Core.List.{[], ◌∷◌}
 use Rattle.model.specs.Frames.{widths, resolve_kind}
 use Rattle.cec_abi.specs.Calls.{limits, fit}
 use Rattle.cec_abi.proofs.NumberLaws.{tests, framed, unfit}
-use borrow.Author.Rules.{rules}
 use Rattle.cec_abi.proofs.numbers.resolve_from.Goals as goal
 
 pub returns-then-first-gt65535 : goal.returns-then-first-gt65535

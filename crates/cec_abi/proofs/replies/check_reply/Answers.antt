@@ -1,6 +1,5 @@
 -- Each arm knows its case of the answer, and a verdict that comes to it has these numbers.
 use Rattle.cec_abi.proofs.ReplyLaws.{accepted, unaccepted}
-use borrow.Author.Rules.{rules}
 use Rattle.cec_abi.proofs.replies.check_reply.Goals as goal
 
 pub returns-in-Accepted : goal.returns-in-Accepted

@@ -2,7 +2,6 @@
 use mathlib.Core.Path.{sym}
 use lib.Seq.{get_or-take}
 use Rattle.cec_abi.proofs.ReplyLaws.{get_d_behind}
-use borrow.Author.Rules.{rules}
 use Rattle.cec_abi.proofs.replies.field_at.Goals as goal
 
 pub returns-then-i-count : goal.returns-then-i-count

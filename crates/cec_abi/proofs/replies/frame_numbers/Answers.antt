@@ -1,6 +1,5 @@
 -- The struct spells the frame, and each field is read by its place (`spelt`).
 use Rattle.cec_abi.proofs.ReplyLaws.{spelt}
-use borrow.Author.Rules.{rules}
 use Rattle.cec_abi.proofs.replies.frame_numbers.Goals as goal
 
 pub returns : goal.returns

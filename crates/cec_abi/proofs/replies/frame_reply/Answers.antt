@@ -1,5 +1,4 @@
 -- Each arm knows its case of the answer.
-use borrow.Author.Rules.{rules}
 use Rattle.cec_abi.proofs.replies.frame_reply.Goals as goal
 
 pub returns-in-Framed : goal.returns-in-Framed

@@ -1,6 +1,5 @@
 -- Each arm knows its case of the answer, and a reading that comes to it has these numbers.
 use Rattle.cec_abi.proofs.ReplyLaws.{counted, uncounted}
-use borrow.Author.Rules.{rules}
 use Rattle.cec_abi.proofs.replies.list_reply.Goals as goal
 
 pub returns-in-Counted : goal.returns-in-Counted

@@ -1,6 +1,5 @@
 -- Each arm knows its case of the answer, and a reading that comes to it has these numbers.
 use Rattle.cec_abi.proofs.ReplyLaws.{paired, unpaired}
-use borrow.Author.Rules.{rules}
 use Rattle.cec_abi.proofs.replies.lists_reply.Goals as goal
 
 pub returns-in-Paired : goal.returns-in-Paired

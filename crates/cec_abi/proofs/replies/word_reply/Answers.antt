@@ -1,5 +1,4 @@
 -- Each arm knows its case of the answer.
-use borrow.Author.Rules.{rules}
 use Rattle.cec_abi.proofs.replies.word_reply.Goals as goal
 
 pub returns-in-Word : goal.returns-in-Word

@@ -1,5 +1,4 @@
 -- Each arm knows its case of the answer.
-use borrow.Author.Rules.{rules}
 use Rattle.cec_abi.proofs.replies.write_reply.Goals as goal
 
 pub returns-in-Done : goal.returns-in-Done

@@ -1,6 +1,5 @@
 -- The limits of document 01 in the shared report.
 use Rattle.model.specs.Checker.{program}
-use borrow.Author.Rules.{rules}
 use Rattle.cec_check.proofs.report.report.Goals as goal
 
 pub returns : goal.returns

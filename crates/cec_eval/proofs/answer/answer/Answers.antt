@@ -1,7 +1,6 @@
 -- Each arm knows its case of the answer, and a report has digits for a refusal's line.
 use Rattle.cec_eval.specs.Program.{program}
 use Rattle.cec_eval.proofs.LineLaws.{has_digits}
-use borrow.Author.Rules.{rules}
 use Rattle.cec_eval.proofs.answer.answer.Goals as goal
 
 pub refusal_line-requires : goal.refusal_line-requires

@@ -2,7 +2,6 @@
 use mathlib.Core.Path.{◌∙◌, sym}
 use native.Mathlib.Omega.{arith}
 use Rattle.cec_eval.proofs.LineLaws.{too_long, not_too_long}
-use borrow.Author.Rules.{rules}
 use Rattle.cec_eval.proofs.answer.evaluate_stream.Goals as goal
 
 pub returns-then-stream-gt-STREAM_BYTES : goal.returns-then-stream-gt-STREAM_BYTES

@@ -1,6 +1,5 @@
 -- The digits and the LF are stored at the start of zeros.
 use Rattle.cec_eval.proofs.LineLaws.{word_printed}
-use borrow.Author.Rules.{rules}
 use Rattle.cec_eval.proofs.answer.word_line.Goals as goal
 
 pub returns : goal.returns

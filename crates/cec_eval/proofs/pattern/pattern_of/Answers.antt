@@ -4,7 +4,6 @@ use native.Mathlib.Omega.{arith}
 use Rattle.digits.specs.Digits.{run}
 use Rattle.digits.proofs.DigitLaws.{run_end}
 use Rattle.cec_eval.proofs.PatternLaws.{other_length, other_byte, spelled}
-use borrow.Author.Rules.{rules}
 use Rattle.cec_eval.proofs.pattern.pattern_of.Goals as goal
 
 pub returns-then-digits-ne-PATTERN_DIGITS : goal.returns-then-digits-ne-PATTERN_DIGITS

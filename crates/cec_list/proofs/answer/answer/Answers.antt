@@ -1,7 +1,6 @@
 -- Each arm knows its case of the answer; a header and a report have digits for what they state.
 use Rattle.cec_list.specs.Program.{listed, program}
 use Rattle.cec_list.proofs.ListLaws.{counts_few, has_digits, counted_line, refused_line}
-use borrow.Author.Rules.{rules}
 use Rattle.cec_list.proofs.answer.answer.Goals as goal
 
 pub counts_line-requires : goal.counts_line-requires

@@ -1,7 +1,6 @@
 -- The two ways to an answer (`ListLaws`).
 use native.Mathlib.Omega.{arith}
 use Rattle.cec_list.proofs.ListLaws.{too_long, not_too_long}
-use borrow.Author.Rules.{rules}
 use Rattle.cec_list.proofs.answer.list_stream.Goals as goal
 
 pub returns-then-stream-gt-STREAM_BYTES : goal.returns-then-stream-gt-STREAM_BYTES

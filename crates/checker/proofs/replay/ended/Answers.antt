@@ -1,5 +1,4 @@
 -- Each case is the definition's own.
-use borrow.Author.Rules.{rules}
 use Rattle.checker.proofs.replay.ended.Goals as goal
 
 pub returns-in-Refused : goal.returns-in-Refused

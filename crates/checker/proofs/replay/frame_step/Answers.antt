@@ -1,6 +1,5 @@
 -- A resolve, an extension, or any other frame (`ReplayLaws`).
 use Rattle.checker.proofs.ReplayLaws.{frame_resolve, frame_extend, frame_other}
-use borrow.Author.Rules.{rules}
 use borrow.Enum.Refused.{opened}
 use Rattle.checker.proofs.replay.frame_step.Goals as goal
 

@@ -1,7 +1,7 @@
 -- The invariant: the lines up to the cursor are replayed, whatever the state was (`ReplayLaws`). A turn is a row of resolves and one line of any
 -- kind; the measure is what is left of the text.
-use Prim.Native.Nat.{◌-◌, ◌≤◌}
-use mathlib.Core.Path.{◌≡◌, ◌∙◌}
+use Prim.Native.Nat.{◌≤◌}
+use mathlib.Core.Path.{◌≡◌}
 use native.Mathlib.Omega.{arith}
 use borrow.Author.Rules.{rules}
 use lib.ListN.{length}

@@ -1,13 +1,8 @@
 -- The invariant: the lines up to the cursor are replayed, whatever the state was (`ReplayLaws`). A turn is a row of resolves and one line of any
 -- kind; the measure is what is left of the text.
-use Prim.Native.Nat.{◌-◌, ◌≤◌}
-use mathlib.Core.Path.{◌≡◌, ◌∙◌}
-use native.Mathlib.Omega.{arith}
-use borrow.Author.Rules.{rules}
+use Prim.Native.Nat.{◌-◌}
 use lib.ListN.{length}
 use Rattle.checker.specs.Replays.{RanTo}
-use Rattle.checker.proofs.ReplayLaws.{replay_ended, ran_none, ran_joined, ran_refused, ran_line, line_refused}
-use borrow.Enum.Refused.{opened}
 use Rattle.checker.proofs.replay.replay.Given as goal
 
 abbrev pub invariant-loop-d : goal.invariant-loop-d

@@ -1,5 +1,4 @@
 -- Each case is the definition's.
-use borrow.Author.Rules.{rules}
 use Rattle.checker.proofs.replay.stopped.Goals as goal
 
 pub returns-in-At : goal.returns-in-At

@@ -9,7 +9,6 @@ use Rattle.steps.specs.Progress.{Says}
 use Rattle.miter.specs.Miters.{begin_of}
 use Rattle.miter.proofs.ListLaws.{lists_of_lem}
 use Rattle.checker.proofs.VerdictLaws.{capacity_fits, unread, begin_refused, replay_refused, not_empty, accepted}
-use borrow.Author.Rules.{rules}
 use Rattle.checker.proofs.verdict.verdict.Goals as goal
 
 pub returns-in_default : goal.returns-in_default

@@ -1,7 +1,6 @@
 -- Two equal literals leave a clause of two; three different ones have six orders, each with its law.
 use native.Mathlib.Omega.{arith}
 use Rattle.clause.proofs.SetLaws.{three_first_two, three_outer_two, three_last_two, three_abc, three_acb, three_cab, three_bac, three_bca, three_cba}
-use borrow.Author.Rules.{rules}
 use Rattle.clause.proofs.Clause.of_three.Goals as goal
 
 pub returns-then-a-b : goal.returns-then-a-b

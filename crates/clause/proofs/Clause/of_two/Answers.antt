@@ -1,7 +1,6 @@
 -- The order of the two decides the clause: each way out has its law.
 use native.Mathlib.Omega.{arith}
 use Rattle.clause.proofs.SetLaws.{two_rising, two_falling, two_equal}
-use borrow.Author.Rules.{rules}
 use Rattle.clause.proofs.Clause.of_two.Goals as goal
 
 pub returns-then-a-b : goal.returns-then-a-b

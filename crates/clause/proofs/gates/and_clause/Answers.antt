@@ -2,7 +2,6 @@
 use mathlib.Core.Path.{◌≡◌}
 use native.Mathlib.Omega.{arith}
 use Rattle.model.specs.Clauses.{and_clauses}
-use borrow.Author.Rules.{rules}
 use Rattle.clause.proofs.gates.and_clause.Goals as goal
 
 pub returns-then-j-eq0 : goal.returns-then-j-eq0

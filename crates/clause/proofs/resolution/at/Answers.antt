@@ -5,7 +5,6 @@ use lib.ListN.{drop_of_length-le}
 use Rattle.model.specs.Limits.{clause_width}
 use Rattle.clause.specs.Sets.{head_of}
 use Rattle.clause.proofs.PlaceLaws.{filled_at}
-use borrow.Author.Rules.{rules}
 use Rattle.clause.proofs.resolution.at.Goals as goal
 
 pub returns-then-i-lt-WIDTH : goal.returns-then-i-lt-WIDTH

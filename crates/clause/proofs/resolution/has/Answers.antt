@@ -1,14 +1,10 @@
 -- The invariant: a place so far had the literal, or what is left holds it, just where the clause does.
-use borrow.Author.Rules.{rules}
 use native.Mathlib.Omega.{arith}
-use Prim.Native.Nat.{◌≤◌, ◌-◌}
-use mathlib.Core.Path.{◌≡◌, refl, sym, ◌∙◌}
-use mathlib.Core.Bool.{◌||◌, or-true, or-false}
+use mathlib.Core.Path.{refl, sym, ◌∙◌}
+use mathlib.Core.Bool.{or-true, or-false}
 use lib.ListN.{drop, drop_of_length-le}
 use lib.Seq.{drop-drop}
-use Rattle.model.specs.Limits.{clause_width}
-use Rattle.model.specs.Clauses.{Clause, holds}
-use Rattle.clause.specs.Sets.{Stores}
+use Rattle.model.specs.Clauses.{holds}
 use Rattle.clause.proofs.SetLaws.{holds_first, holds_rest}
 use Rattle.clause.proofs.resolution.has.Goals as goal
 
@@ -19,12 +15,11 @@ pub head-x-requires : goal.head-x-requires
 head-x-requires c = c.requires.0
 
 pub loop-i-preserved-then-x-l : goal.loop-i-preserved-then-x-l
-loop-i-preserved-then-x-l c =
-    (
-      omega (arith, c.loop-i.invariant.0),
-      λ d g. sym (or-true c.loop-i.met)
-          ∙ (rw (holds_first _ (drop c.loop-i.i d) (sym (c.head-x.ensures d g) ∙ c.if-x-l.true) c.requires.1) at (c.loop-i.invariant.1 d g)),
-    )
+loop-i-preserved-then-x-l c = (
+  omega (arith, c.loop-i.invariant.0),
+  λ d g. sym (or-true c.loop-i.met)
+      ∙ (rw (holds_first _ (drop c.loop-i.i d) (sym (c.head-x.ensures d g) ∙ c.if-x-l.true) c.requires.1) at (c.loop-i.invariant.1 d g)),
+)
 
 pub loop-i-preserved : goal.loop-i-preserved
 loop-i-preserved c =

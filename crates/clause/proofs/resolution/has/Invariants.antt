@@ -1,15 +1,11 @@
 -- The invariant: a place so far had the literal, or what is left holds it, just where the clause does.
-use borrow.Author.Rules.{rules}
-use native.Mathlib.Omega.{arith}
 use Prim.Native.Nat.{◌≤◌, ◌-◌}
-use mathlib.Core.Path.{◌≡◌, refl, sym, ◌∙◌}
-use mathlib.Core.Bool.{◌||◌, or-true, or-false}
-use lib.ListN.{drop, drop_of_length-le}
-use lib.Seq.{drop-drop}
+use mathlib.Core.Path.{◌≡◌}
+use mathlib.Core.Bool.{◌||◌}
+use lib.ListN.{drop}
 use Rattle.model.specs.Limits.{clause_width}
 use Rattle.model.specs.Clauses.{Clause, holds}
 use Rattle.clause.specs.Sets.{Stores}
-use Rattle.clause.proofs.SetLaws.{holds_first, holds_rest}
 use Rattle.clause.proofs.resolution.has.Given as goal
 
 abbrev pub invariant-loop-i : goal.invariant-loop-i

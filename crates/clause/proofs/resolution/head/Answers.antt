@@ -6,7 +6,6 @@ use lib.ListN.{get_or, drop, drop_of_length-le}
 use Rattle.clause.specs.Sets.{head_of}
 use Rattle.clause.proofs.StoreLaws.{number_at}
 use Rattle.clause.proofs.PlaceLaws.{head_most, rising_from}
-use borrow.Author.Rules.{rules}
 use Rattle.clause.proofs.resolution.head.Goals as goal
 
 pub returns-then-x-eq0 : goal.returns-then-x-eq0

@@ -1,14 +1,11 @@
 -- The invariant is `Joining` for every two clauses that the arrays copy: after k turns the array has the first k literals of their join.
-use borrow.Author.Rules.{rules}
-use native.Mathlib.Omega.{arith}
 use Prim.Native.Nat.{◌≤◌, ◌-◌}
-use mathlib.Core.Path.{◌≡◌, refl}
-use lib.ListN.{length, length-set}
+use mathlib.Core.Path.{◌≡◌}
+use lib.ListN.{length}
 use Rattle.model.specs.Limits.{clause_width}
 use Rattle.model.specs.Clauses as model
 use Rattle.clause.specs.Sets.{Copies}
-use Rattle.clause.specs.declared.resolution.Outcome.TheVariants.{TooLong}
-use Rattle.clause.proofs.JoinLaws.{Joining, joining_turn, joining_end, joining_long, too_long, refuses}
+use Rattle.clause.proofs.JoinLaws.{Joining}
 use Rattle.clause.proofs.resolution.join.Given as goal
 
 abbrev pub invariant-loop-k : goal.invariant-loop-k

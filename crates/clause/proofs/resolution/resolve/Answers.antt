@@ -8,7 +8,6 @@ use Rattle.model.specs.Clauses.{holds, negative, resolvent}
 use Rattle.clause.specs.declared.resolution.Outcome.TheVariants.{Missing}
 use Rattle.clause.proofs.SetLaws.{not_above}
 use Rattle.clause.proofs.JoinLaws.{refuses, no_first, no_second, both_there}
-use borrow.Author.Rules.{rules}
 use Rattle.clause.proofs.resolution.resolve.Goals as goal
 
 pub returns-then-v : goal.returns-then-v

@@ -1,15 +1,13 @@
 -- The array has the clause without l up to i, then the bound (`filled_next`): each place keeps its literal or takes the next (`place_out`).
-use borrow.Author.Rules.{rules}
 use native.Mathlib.Omega.{arith}
 use native.Mathlib.Numerals.{add-one}
-use Prim.Native.Nat.{ℕ, ◌≤◌, ◌-◌}
-use mathlib.Core.Path.{◌≡◌, refl, ap, ◌∙◌}
-use mathlib.Core.Bool.{true}
-use lib.ListN.{length, take, drop, length-set}
+use Prim.Native.Nat.{ℕ, ◌≤◌}
+use mathlib.Core.Path.{refl, ap, ◌∙◌}
+use lib.ListN.{length, drop, length-set}
 use lib.Seq.{take_all}
 use Rattle.model.specs.Limits.{clause_width}
 use Rattle.model.specs.Clauses as model
-use Rattle.clause.specs.Sets.{head_of, filled, Stores}
+use Rattle.clause.specs.Sets.{head_of, filled}
 use Rattle.clause.proofs.SetLaws.{rising_without, length_without}
 use Rattle.clause.proofs.PlaceLaws.{place_out, filled_next}
 use Rattle.clause.proofs.resolution.without.Goals as goal

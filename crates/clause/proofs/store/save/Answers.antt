@@ -1,11 +1,9 @@
 -- The invariant: the store with what is left of the stored clause put in is the old store with the whole of it put in.
 use native.Mathlib.Nat.{add-zero}
 use native.Mathlib.Omega.{arith}
-use borrow.Author.Rules.{rules}
-use Prim.Native.Nat.{◌≤◌, ◌+◌, ◌-◌}
-use mathlib.Core.Path.{◌≡◌, refl, ◌∙◌, sym}
-use lib.ListN.{length, drop, length-set, drop_of_length-le}
-use lib.Seq.{sets}
+use Prim.Native.Nat.{◌≤◌}
+use mathlib.Core.Path.{refl, ◌∙◌, sym}
+use lib.ListN.{length, length-set, drop_of_length-le}
 use Rattle.model.specs.Limits.{clause_width}
 use Rattle.model.specs.Checker.{stored}
 use Rattle.clause.specs.Sets.{literals_of}

@@ -1,15 +1,11 @@
 -- The invariant: the store with what is left of the stored clause put in is the old store with the whole of it put in.
-use native.Mathlib.Nat.{add-zero}
-use native.Mathlib.Omega.{arith}
-use borrow.Author.Rules.{rules}
 use Prim.Native.Nat.{◌≤◌, ◌+◌, ◌-◌}
-use mathlib.Core.Path.{◌≡◌, refl, ◌∙◌, sym}
-use lib.ListN.{length, drop, length-set, drop_of_length-le}
+use mathlib.Core.Path.{◌≡◌}
+use lib.ListN.{length, drop}
 use lib.Seq.{sets}
 use Rattle.model.specs.Limits.{clause_width}
 use Rattle.model.specs.Checker.{stored}
 use Rattle.clause.specs.Sets.{literals_of}
-use Rattle.clause.proofs.StoreLaws.{stored_length, store_next}
 use Rattle.clause.proofs.store.save.Given as goal
 
 abbrev pub invariant-loop-i : goal.invariant-loop-i

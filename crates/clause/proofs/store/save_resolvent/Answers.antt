@@ -2,11 +2,9 @@
 -- place is the stored clause's there (`number_at`).
 use native.Mathlib.Nat.{add-zero}
 use native.Mathlib.Omega.{arith}
-use borrow.Author.Rules.{rules}
-use Prim.Native.Nat.{◌≤◌, ◌+◌, ◌-◌}
-use mathlib.Core.Path.{◌≡◌, refl, sym, ◌∙◌}
-use lib.ListN.{length, drop, length-set, drop_of_length-le}
-use lib.Seq.{sets}
+use Prim.Native.Nat.{◌≤◌}
+use mathlib.Core.Path.{refl, sym, ◌∙◌}
+use lib.ListN.{length, length-set, drop_of_length-le}
 use Rattle.model.specs.Limits.{clause_width}
 use Rattle.model.specs.Checker.{stored}
 use Rattle.clause.specs.Sets.{literals_of}

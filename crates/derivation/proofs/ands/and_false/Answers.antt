@@ -2,7 +2,6 @@
 use native.Mathlib.Omega.{arith}
 use Rattle.emit_laws.specs.CaseTrees.{and_trees}
 use Rattle.derivation.proofs.EmitLaws.{few_old, few_then, few_gate, emits_old, emits_two}
-use borrow.Author.Rules.{rules}
 use Rattle.derivation.proofs.ands.and_false.Goals as goal
 
 pub returns : goal.returns

@@ -2,7 +2,6 @@
 use mathlib.Core.Path.{◌∙◌}
 use native.Mathlib.Omega.{arith}
 use Rattle.derivation.proofs.EmitLaws.{few_then, room_then, emits_cut_left}
-use borrow.Author.Rules.{rules}
 use Rattle.derivation.proofs.ands.and_up.Goals as goal
 
 pub resolve_on-requires : goal.resolve_on-requires
@@ -12,7 +11,10 @@ resolve_on-requires c =
 pub returns : goal.returns
 returns c =
     let x = c.complement-not_x.ensures in
-    let y = c.complement-not_y.ensures in record { few = few_then (few_then c.subst2-third.ensures.few c.resolve_on-half.ensures.few) c.resolve_on.ensures.few; emits = λ t links k h u.
+    let y = c.complement-not_y.ensures in record {
+      few = few_then (few_then c.subst2-third.ensures.few c.resolve_on-half.ensures.few) c.resolve_on.ensures.few;
+      emits = λ t links k h u.
           emits_cut_left
           (emits_cut_left (rw (x, y) at (c.subst2-third.ensures.emits t links k (omega (arith, x)) (omega (arith, y)))) (rw (c.number_at.ensures links k.numbers u, c.representative.ensures t k.rows (omega arith)) at c.resolve_on-half.ensures.emits))
-          (rw (c.number_at-2.ensures links k.numbers u, c.representative-2.ensures t k.rows (omega arith)) at c.resolve_on.ensures.emits) }
+          (rw (c.number_at-2.ensures links k.numbers u, c.representative-2.ensures t k.rows (omega arith)) at c.resolve_on.ensures.emits);
+    }

@@ -2,7 +2,6 @@
 use Prim.Native.Nat.{◌%◌}
 use mathlib.Core.Path.{◌≡◌, sym, ◌∙◌}
 use native.Mathlib.Omega.{arith}
-use borrow.Author.Rules.{rules}
 use Rattle.derivation.proofs.lines.resolution.Goals as goal
 
 pub returns-then-sign-eq1 : goal.returns-then-sign-eq1

@@ -18,5 +18,8 @@ pub returns : goal.returns
 returns c =
     let a = c.args in
     let f = c.subst1-one.ensures in
-    let g = c.subst1.ensures in record { few = few_then f.few g.few; emits = λ t links k h i.
-          emits_twice (rep_of t) (link_of links) (old a.c) a.l.code a.m.code (λ e. omega arith) (f.emits t links k h) (g.emits t links k i) }
+    let g = c.subst1.ensures in record {
+      few = few_then f.few g.few;
+      emits = λ t links k h i.
+          emits_twice (rep_of t) (link_of links) (old a.c) a.l.code a.m.code (λ e. omega arith) (f.emits t links k h) (g.emits t links k i);
+    }

@@ -9,7 +9,6 @@ use Rattle.fold_laws.specs.Table.{rep_of}
 use Rattle.emit_laws.specs.CaseTrees.{xor_trees}
 use Rattle.derivation.proofs.EmitLaws.{few_then, few_gate, few_more, emits_two}
 use Rattle.derivation.proofs.CaseLaws.{hit_done}
-use borrow.Author.Rules.{rules}
 use Rattle.derivation.proofs.xors.xor_pair.Goals as goal
 
 pub returns-then-rep-d : goal.returns-then-rep-d
@@ -20,10 +19,13 @@ returns-then-rep-d c =
 pub returns : goal.returns
 unfolding xor_trees
 returns c =
-    let d = c.args.d in record { few = few_gate (few_then c.xor_down-down.ensures.few c.xor_up-up.ensures.few) c.two_links.ensures; emits = λ t links k h.
+    let d = c.args.d in record {
+      few = few_gate (few_then c.xor_down-down.ensures.few c.xor_up-up.ensures.few) c.two_links.ensures;
+      emits = λ t links k h.
           let e = c.representative-rep.ensures t k.rows (omega arith) in
           let other : rep_of t d.n.code ≡ d.n.code → ⊥ = λ z. c.if-rep-d.false (e ∙ z) in
           let is : c.variable-u.result ≡ net_of (rep_of t d.n.code) = rw e at c.variable-u.ensures in
           let done : c.variable-u.result < length links = rw is (hit_done d k h other) in
           rw (ne_eqb (rep_of t d.n.code) d.n.code other)
-          (emits_two (rw is at (c.xor_down-down.ensures.emits t links k h done)) (rw is at (c.xor_up-up.ensures.emits t links k h done)) c.two_links.ensures) }
+          (emits_two (rw is at (c.xor_down-down.ensures.emits t links k h done)) (rw is at (c.xor_up-up.ensures.emits t links k h done)) c.two_links.ensures);
+    }

@@ -3,7 +3,6 @@ use Prim.Native.Nat.{◌+◌}
 use native.Mathlib.Omega.{arith}
 use lib.Bits.{and_le_r}
 use Rattle.digits.proofs.PackLaws.{spelt}
-use borrow.Author.Rules.{rules}
 use Rattle.digits.proofs.packed.spelling.Goals as goal
 
 pub overflow_mul-result : goal.overflow_mul-result

@@ -1,6 +1,5 @@
 -- Neighbours are joined to pairs, and the pairs to the number.
 use Rattle.digits.proofs.PackLaws.{word_parts}
-use borrow.Author.Rules.{rules}
 use Rattle.digits.proofs.packed.word_of.Goals as goal
 
 pub returns : goal.returns

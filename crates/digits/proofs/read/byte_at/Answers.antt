@@ -1,7 +1,6 @@
 -- Two values, each of a digit or above all of one (`two_digits`).
 use native.Mathlib.Omega.{arith}
 use Rattle.digits.proofs.ReadLaws.{two_digits}
-use borrow.Author.Rules.{rules}
 use Rattle.digits.proofs.read.byte_at.Goals as goal
 
 pub overflow_mul-result : goal.overflow_mul-result

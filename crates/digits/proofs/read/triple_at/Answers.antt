@@ -1,7 +1,6 @@
 -- Two digits and four.
 use native.Mathlib.Omega.{arith}
 use Rattle.digits.proofs.ReadLaws.{six_digits, no_low, no_triple}
-use borrow.Author.Rules.{rules}
 use Rattle.digits.proofs.read.triple_at.Goals as goal
 
 pub returns-then-high-ge-NO_BYTE : goal.returns-then-high-ge-NO_BYTE

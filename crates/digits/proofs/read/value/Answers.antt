@@ -6,7 +6,6 @@ use Rattle.model.specs.Lines.{is_digit}
 use borrow.Author.Tests.{not-true, not-false}
 use Rattle.digits.proofs.DigitLaws.{digit_range, value_decimal, value_letter}
 use Rattle.digits.proofs.ReadLaws.{one_digit}
-use borrow.Author.Rules.{rules}
 use Rattle.digits.proofs.read.value.Goals as goal
 
 pub returns-then-not-is_digit : goal.returns-then-not-is_digit

@@ -1,6 +1,5 @@
 -- The four bytes are digits with these values (`four_digits`), or not all digits (`no_word`).
 use Rattle.digits.proofs.ReadLaws.{four_digits, no_word}
-use borrow.Author.Rules.{rules}
 use Rattle.digits.proofs.read.word_at.Goals as goal
 
 pub returns-then-values-ge-NO_VALUES : goal.returns-then-values-ge-NO_VALUES

@@ -1,11 +1,9 @@
 -- The invariant: the numbers of net 0 and of the inputs below k stand, and rows in front stayed.
-use Prim.Native.Nat.{ℕ, ◌-◌, ◌*◌, ◌≤◌}
+use Prim.Native.Nat.{ℕ}
 use mathlib.Core.Path.{◌≡◌, refl, ◌∙◌, subst}
 use mathlib.Core.List.{List, [], ◌∷◌}
 use native.Mathlib.Omega.{arith}
 use lib.ListN.{length, length-replicate}
-use Rattle.fold_laws.specs.Table.{Entry}
-use Rattle.table.specs.Rows.{row_width, HoldsTable}
 use Rattle.table.specs.Links.{Keeps}
 use Rattle.emit_laws.specs.Emit.{start_links}
 use Rattle.emit.proofs.BeginLaws.{keeps_none, start_more}

@@ -1,15 +1,12 @@
 -- The invariant: the numbers of net 0 and of the inputs below k stand, and rows in front stayed.
-use Prim.Native.Nat.{ℕ, ◌-◌, ◌*◌, ◌≤◌}
-use mathlib.Core.Path.{◌≡◌, refl, ◌∙◌, subst}
-use mathlib.Core.List.{List, [], ◌∷◌}
-use native.Mathlib.Omega.{arith}
-use lib.ListN.{length, length-replicate}
+use Prim.Native.Nat.{◌-◌, ◌*◌, ◌≤◌}
+use mathlib.Core.Path.{◌≡◌}
+use mathlib.Core.List.{List}
+use lib.ListN.{length}
 use Rattle.fold_laws.specs.Table.{Entry}
 use Rattle.table.specs.Rows.{row_width, HoldsTable}
 use Rattle.table.specs.Links.{Keeps}
 use Rattle.emit_laws.specs.Emit.{start_links}
-use Rattle.emit.proofs.BeginLaws.{keeps_none, start_more}
-use borrow.Author.Rules.{rules}
 use Rattle.emit.proofs.begin.start_links.Given as goal
 
 abbrev pub invariant-loop-k : goal.invariant-loop-k

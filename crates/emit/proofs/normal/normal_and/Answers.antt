@@ -4,7 +4,6 @@ use mathlib.Core.Bool.{false}
 use Rattle.fold_laws.specs.Table.{rep_of}
 use Rattle.derivation.specs.Known.{literals_of, numbers_of}
 use Rattle.emit.proofs.NormalLaws.{normal_kept, normal_swapped}
-use borrow.Author.Rules.{rules}
 use Rattle.emit.proofs.normal.normal_and.Goals as goal
 
 pub returns-then-representative : goal.returns-then-representative

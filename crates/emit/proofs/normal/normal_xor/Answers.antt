@@ -6,7 +6,6 @@ use Rattle.fold_laws.specs.Table.{rep_of}
 use Rattle.emit_laws.specs.Gates.{unsigned}
 use Rattle.derivation.specs.Known.{literals_of, numbers_of}
 use Rattle.emit.proofs.NormalLaws.{unsigned_x, unsigned_y, normal_kept, normal_swapped}
-use borrow.Author.Rules.{rules}
 use Rattle.emit.proofs.normal.normal_xor.Goals as goal
 
 pub returns-then-representative : goal.returns-then-representative

@@ -4,7 +4,6 @@ use mathlib.Core.Bool.{true, false}
 use Rattle.emit_laws.specs.Gates as model
 use Rattle.derivation.specs.Known.{literals_of}
 use Rattle.emit.proofs.NormalLaws.{turned_twice}
-use borrow.Author.Rules.{rules}
 use Rattle.emit.proofs.normal.turn.Goals as goal
 
 pub returns-then-second : goal.returns-then-second

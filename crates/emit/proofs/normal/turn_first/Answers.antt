@@ -1,6 +1,5 @@
 -- Complements are the definition's.
 use mathlib.Core.Path.{refl}
-use borrow.Author.Rules.{rules}
 use Rattle.emit.proofs.normal.turn_first.Goals as goal
 
 pub returns : goal.returns

@@ -1,23 +1,16 @@
 -- The invariant: of whatever two lists stand in the text, the outputs before i were emitted, and with what is left they make up the tree of
 -- all (`OutputLaws`).
-use Prim.Native.Nat.{ℕ, ◌+◌, ◌*◌, ◌-◌, ◌≤◌}
 use mathlib.Core.Path.{◌≡◌, refl, ap, ◌∙◌}
-use mathlib.Core.List.{List}
 use native.Mathlib.Omega.{arith}
 use borrow.Author.Rules.{rules}
 use lib.ListN.{length}
 use Rattle.model.specs.Nets.{Gate}
 use Rattle.model.specs.Miter.{z_gates}
 use Rattle.laws.specs.MiterOrder.{length_z}
-use Rattle.fold_laws.specs.Table.{Entry, rep_of}
-use Rattle.emit_laws.specs.Trees.{Tree}
+use Rattle.fold_laws.specs.Table.{rep_of}
 use Rattle.emit_laws.specs.Gates.{link_of}
-use Rattle.miter.specs.Miters.{PairStands}
 use Rattle.miter.proofs.MiterLaws.{within}
-use Rattle.derivation.specs.declared.lines.Derived.{Derived}
-use Rattle.derivation.specs.Emission.{Few}
-use Rattle.derivation.specs.Known.{Known}
-use Rattle.emit.proofs.OutputLaws.{UpTo, up_to_first, up_to_next, up_to_all, Begin, z_below, last_tree_lem}
+use Rattle.emit.proofs.OutputLaws.{up_to_first, up_to_next, up_to_all, z_below, last_tree_lem}
 use Rattle.emit.proofs.outputs.outputs.Goals as goal
 
 -- LOST same-length
@@ -100,10 +93,12 @@ returns c =
     let first = c.out-run in
     let gate = c.outputs_of-first in
     let a = c.args in
-    let end = c.resolve_on in record { few = record {
+    let end = c.resolve_on in record {
+      few = record {
         lines = omega (arith, l.invariant.4.lines, l.invariant.0, l.invariant.1, first.ensures.few.lines, end.ensures.few.lines);
         clauses = omega (arith, l.invariant.4.clauses, l.invariant.0, l.invariant.1, first.ensures.few.clauses, end.ensures.few.clauses);
-      }; emits = λ w t links known n k.
+      };
+      emits = λ w t links known n k.
           let gs = z_gates w.left w.right in
           let many = length_z w.left w.right w.alike in
           let x = ap (λ (g : Gate). g.x) (gate.ensures w) in
@@ -114,4 +109,5 @@ returns c =
           (omega (arith, many, w.outputs, within w)) x y (first.ensures.emits t links known (omega (arith, below.0)) (omega (arith, below.1))) in
           rw (← last_tree_lem w (rep_of t) links _ _ a.kz _ _ l.invariant.5 refl k)
           (up_to_all (rep_of t) (link_of links) gs _ _ _ a.kz _ (omega (arith, many, w.outputs, l.invariant.1, c.loop-i-test.false))
-          (l.invariant.6 w t links known n _ _ _ one) (rw (c.last_clause.ensures, c.positive.ensures) at end.ensures.emits)) }
+          (l.invariant.6 w t links known n _ _ _ one) (rw (c.last_clause.ensures, c.positive.ensures) at end.ensures.emits));
+    }

@@ -1,23 +1,18 @@
 -- The invariant: of whatever two lists stand in the text, the outputs before i were emitted, and with what is left they make up the tree of
 -- all (`OutputLaws`).
 use Prim.Native.Nat.{ℕ, ◌+◌, ◌*◌, ◌-◌, ◌≤◌}
-use mathlib.Core.Path.{◌≡◌, refl, ap, ◌∙◌}
+use mathlib.Core.Path.{◌≡◌}
 use mathlib.Core.List.{List}
-use native.Mathlib.Omega.{arith}
-use borrow.Author.Rules.{rules}
 use lib.ListN.{length}
-use Rattle.model.specs.Nets.{Gate}
 use Rattle.model.specs.Miter.{z_gates}
-use Rattle.laws.specs.MiterOrder.{length_z}
 use Rattle.fold_laws.specs.Table.{Entry, rep_of}
 use Rattle.emit_laws.specs.Trees.{Tree}
 use Rattle.emit_laws.specs.Gates.{link_of}
 use Rattle.miter.specs.Miters.{PairStands}
-use Rattle.miter.proofs.MiterLaws.{within}
 use Rattle.derivation.specs.declared.lines.Derived.{Derived}
 use Rattle.derivation.specs.Emission.{Few}
 use Rattle.derivation.specs.Known.{Known}
-use Rattle.emit.proofs.OutputLaws.{UpTo, up_to_first, up_to_next, up_to_all, Begin, z_below, last_tree_lem}
+use Rattle.emit.proofs.OutputLaws.{UpTo, Begin}
 use Rattle.emit.proofs.outputs.outputs.Given as goal
 
 abbrev pub invariant-loop-i : goal.invariant-loop-i

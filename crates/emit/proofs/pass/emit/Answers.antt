@@ -12,7 +12,6 @@ use Rattle.table.specs.Links.{Keeps}
 use Rattle.derivation.specs.Known.{Known}
 use Rattle.emit.specs.declared.pass.Progress.{Progress}
 use Rattle.emit.proofs.PassLaws.{known_first, emitted}
-use borrow.Author.Rules.{rules}
 use Rattle.emit.proofs.pass.emit.Goals as goal
 
 pub returns : goal.returns

@@ -2,7 +2,6 @@
 use mathlib.Core.Path.{refl}
 use borrow.Author.Tests.{not-true, not-false}
 use Rattle.emit.proofs.PassLaws.{slots_plain, slots_own, slots_linked}
-use borrow.Author.Rules.{rules}
 use Rattle.emit.proofs.pass.exchange_links.Goals as goal
 
 pub returns-then-not-turned : goal.returns-then-not-turned

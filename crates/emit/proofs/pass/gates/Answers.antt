@@ -1,17 +1,11 @@
 -- The invariant: the lines of the gates below i are written, and what is left of the loop makes up the whole (`PassLaws`).
-use Prim.Native.Nat.{◌+◌, ◌-◌, ◌*◌, ◌<◌, ◌≤◌}
+use Prim.Native.Nat.{◌+◌, ◌<◌}
 use mathlib.Core.Path.{◌≡◌, refl, ◌∙◌}
-use mathlib.Core.List.{List}
 use native.Mathlib.Omega.{arith}
 use lib.ListN.{length}
-use Rattle.model.specs.Limits.{lines_per_gate}
 use Rattle.model.specs.Miter.{first_gate, gates_of}
 use Rattle.laws.specs.MiterOrder.{length_gates}
-use Rattle.fold_laws.specs.Table.{Entry}
-use Rattle.emit_laws.specs.Emit.{start_links}
-use Rattle.miter.specs.Miters.{PairStands}
-use Rattle.derivation.specs.Known.{Known}
-use Rattle.emit.proofs.PassLaws.{UpTo, up_to_none, up_to_next, reads_done, up_to_all}
+use Rattle.emit.proofs.PassLaws.{up_to_none, up_to_next, reads_done, up_to_all}
 use borrow.Author.Rules.{rules}
 use Rattle.emit.proofs.pass.gates.Goals as goal
 
@@ -60,6 +54,9 @@ pub returns : goal.returns
 returns c =
     let a = c.args in
     let l = c.loop-i in
-    let v = l.invariant in record { few = (omega (arith, v.3), omega (arith, v.4)); done = λ w t k n.
+    let v = l.invariant in record {
+      few = (omega (arith, v.3), omega (arith, v.4));
+      done = λ w t k n.
           up_to_all a.proof.now a.at a.start t w.left w.right l.proof l.work l.done l.i
-          (omega (arith, length_gates w.left w.right w.alike, w.left_gates, w.right_gates_lem)) (v.6 w t k n) }
+          (omega (arith, length_gates w.left w.right w.alike, w.left_gates, w.right_gates_lem)) (v.6 w t k n);
+    }

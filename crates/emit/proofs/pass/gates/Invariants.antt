@@ -1,18 +1,14 @@
 -- The invariant: the lines of the gates below i are written, and what is left of the loop makes up the whole (`PassLaws`).
-use Prim.Native.Nat.{◌+◌, ◌-◌, ◌*◌, ◌<◌, ◌≤◌}
-use mathlib.Core.Path.{◌≡◌, refl, ◌∙◌}
+use Prim.Native.Nat.{◌+◌, ◌-◌, ◌*◌, ◌≤◌}
+use mathlib.Core.Path.{◌≡◌}
 use mathlib.Core.List.{List}
-use native.Mathlib.Omega.{arith}
 use lib.ListN.{length}
 use Rattle.model.specs.Limits.{lines_per_gate}
-use Rattle.model.specs.Miter.{first_gate, gates_of}
-use Rattle.laws.specs.MiterOrder.{length_gates}
 use Rattle.fold_laws.specs.Table.{Entry}
 use Rattle.emit_laws.specs.Emit.{start_links}
 use Rattle.miter.specs.Miters.{PairStands}
 use Rattle.derivation.specs.Known.{Known}
-use Rattle.emit.proofs.PassLaws.{UpTo, up_to_none, up_to_next, reads_done, up_to_all}
-use borrow.Author.Rules.{rules}
+use Rattle.emit.proofs.PassLaws.{UpTo}
 use Rattle.emit.proofs.pass.gates.Given as goal
 
 abbrev pub invariant-loop-i : goal.invariant-loop-i

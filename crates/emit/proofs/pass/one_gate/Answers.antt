@@ -9,7 +9,6 @@ use Rattle.miter.proofs.MiterLaws.{meant}
 use Rattle.miter.proofs.ClauseLaws.{few_each}
 use Rattle.emit.specs.Pass.{GateDone}
 use Rattle.emit.proofs.PassLaws.{first_next, gate_done}
-use borrow.Author.Rules.{rules}
 use Rattle.emit.proofs.pass.one_gate.Goals as goal
 
 pub returns : goal.returns
@@ -21,11 +20,14 @@ returns c =
     let y = c.of-2.ensures in
     let f = c.gate_lines-derived in
     let k = c.keep in
-    let n = c.behind.ensures in record { few = record { lines = f.ensures.few.lines; clauses = f.ensures.few.clauses; next = omega (arith, n, few_each g.op) }; done = λ t links known long h low.
+    let n = c.behind.ensures in record {
+      few = record { lines = f.ensures.few.lines; clauses = f.ensures.few.clauses; next = omega (arith, n, few_each g.op) };
+      done = λ t links known long h low.
           let b = literals_below a.v (gate_meant g) low in
           let m : Gate = record { op = op_of g.op; x = g.x; y = g.y } in
           let next = first_next t links a.v g.x g.y a.at.next long h b.0 b.1 in
           subst (GateDone a.proof.now a.at _ k.new.work a.start _ t links a.v) (sym (meant g.op g.x g.y))
           (gate_done a.proof.now _ a.work.now k.new.work a.start a.at _ _ f.result t links a.v m refl refl refl refl
           (rw (own, x, y) at (f.ensures.emits t links known (rw (own, x, y) next))) known long h (λ ns e. k.ensures.keeps links ns known.numbers long e)
-          (k.ensures.stays t known.rows known.behind_rows) n) }
+          (k.ensures.stays t known.rows known.behind_rows) n);
+    }

@@ -1,6 +1,5 @@
 -- Each arm knows what the operands fold to.
 use Rattle.fold.proofs.EntryLaws.{linked_is}
-use borrow.Author.Rules.{rules}
 use Rattle.fold.proofs.entry.entered.Goals as goal
 
 pub returns-in-Is : goal.returns-in-Is

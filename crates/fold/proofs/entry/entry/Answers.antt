@@ -4,7 +4,6 @@ use mathlib.Core.Bool.{true, false}
 use Rattle.fold_laws.specs.Table as model
 use Rattle.fold.proofs.OperandLaws.{combined}
 use Rattle.fold.proofs.EntryLaws.{is_entry}
-use borrow.Author.Rules.{rules}
 use Rattle.fold.proofs.entry.entry.Goals as goal
 
 pub returns-in-And : goal.returns-in-And

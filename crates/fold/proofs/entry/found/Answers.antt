@@ -3,7 +3,6 @@ use mathlib.Core.Path.{ap, ◌∙◌}
 use native.Mathlib.Omega.{arith}
 use Rattle.fold_laws.specs.Signs.{signed}
 use Rattle.fold.proofs.EntryLaws.{found_old, found_none}
-use borrow.Author.Rules.{rules}
 use Rattle.fold.proofs.entry.found.Goals as goal
 
 pub returns-then-u-v : goal.returns-then-u-v

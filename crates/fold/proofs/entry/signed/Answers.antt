@@ -1,5 +1,4 @@
 -- Each sign by itself.
-use borrow.Author.Rules.{rules}
 use Rattle.fold.proofs.entry.signed.Goals as goal
 
 pub returns-then-sign : goal.returns-then-sign

@@ -2,7 +2,6 @@
 use mathlib.Core.Path.{◌∙◌}
 use mathlib.Core.Bool.{false}
 use Rattle.fold.proofs.OperandLaws.{by_order}
-use borrow.Author.Rules.{rules}
 use Rattle.fold.proofs.operands.and_of.Goals as goal
 
 pub returns : goal.returns

@@ -2,7 +2,6 @@
 use mathlib.Core.Path.{sym, ap, ◌∙◌}
 use Rattle.fold_laws.specs.Cases.Made.{is}
 use Rattle.fold.proofs.OperandLaws.{and_nil, and_true, and_same, and_opposite, and_key}
-use borrow.Author.Rules.{rules}
 use Rattle.fold.proofs.operands.and_ordered.Goals as goal
 
 pub returns-then-a-eq-FALSE : goal.returns-then-a-eq-FALSE

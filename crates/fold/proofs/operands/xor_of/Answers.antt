@@ -2,7 +2,6 @@
 use mathlib.Core.Path.{◌∙◌}
 use mathlib.Core.Bool.{true}
 use Rattle.fold.proofs.OperandLaws.{by_order, unsigned}
-use borrow.Author.Rules.{rules}
 use Rattle.fold.proofs.operands.xor_of.Goals as goal
 
 pub returns : goal.returns

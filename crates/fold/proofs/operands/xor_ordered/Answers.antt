@@ -2,7 +2,6 @@
 use mathlib.Core.Path.{ap, ◌∙◌}
 use Rattle.fold_laws.specs.Cases.Made.{is}
 use Rattle.fold.proofs.OperandLaws.{xor_pass, xor_same, xor_key}
-use borrow.Author.Rules.{rules}
 use Rattle.fold.proofs.operands.xor_ordered.Goals as goal
 
 pub returns-then-a-eq-FALSE : goal.returns-then-a-eq-FALSE

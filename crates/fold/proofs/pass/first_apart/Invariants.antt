@@ -1,14 +1,11 @@
 -- The invariant: the outputs below k have the same representatives, so the comparison goes on from k.
 use Prim.Native.Nat.{◌+◌, ◌-◌, ◌≤◌}
-use mathlib.Core.Path.{◌≡◌, sym, ◌∙◌}
+use mathlib.Core.Path.{◌≡◌}
 use mathlib.Core.List.{map}
-use native.Mathlib.Omega.{arith}
 use lib.ListN.{drop}
 use Rattle.fold_laws.specs.Engine.{moved_to, both_table, reps_apart, by_reps}
 use Rattle.table.specs.Rows.{HoldsTable}
 use Rattle.miter.specs.Miters.{PairStands}
-use Rattle.fold.proofs.PassLaws.{from_first, differ_here, differ_later, apart_none}
-use borrow.Author.Rules.{rules}
 use Rattle.fold.proofs.pass.first_apart.Given as goal
 
 abbrev pub invariant-loop-k : goal.invariant-loop-k

@@ -1,17 +1,16 @@
 -- The invariant: the entries of the nets before gate k stand (`PassLaws`).
-use Prim.Native.Nat.{ℕ, ◌+◌, ◌-◌, ◌≤◌}
+use Prim.Native.Nat.{ℕ, ◌+◌}
 use mathlib.Core.Path.{◌≡◌, refl, sym, ap, ◌∙◌, subst}
 use native.Mathlib.Omega.{arith}
 use lib.ListN.{length}
 use Rattle.model.specs.Miter.{gates_of}
 use Rattle.table.specs.Rows.{entry_of, HoldsTable}
 use Rattle.table.specs.Buckets.{Indexed}
-use Rattle.miter.specs.Miters.{PairStands}
 use Rattle.laws.specs.MiterOrder.{length_gates}
 use Rattle.fold_laws.specs.Table as model
 use Rattle.listing.specs.Listing.{gate_meant}
 use Rattle.miter.proofs.MiterLaws.{within, few_left, few_right}
-use Rattle.fold.proofs.PassLaws.{after, after_none, after_all, gate_entered}
+use Rattle.fold.proofs.PassLaws.{after_none, after_all, gate_entered}
 use borrow.Author.Rules.{rules}
 use Rattle.fold.proofs.pass.fold.Goals as goal
 

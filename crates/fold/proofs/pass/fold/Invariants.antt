@@ -1,18 +1,11 @@
 -- The invariant: the entries of the nets before gate k stand (`PassLaws`).
-use Prim.Native.Nat.{ℕ, ◌+◌, ◌-◌, ◌≤◌}
-use mathlib.Core.Path.{◌≡◌, refl, sym, ap, ◌∙◌, subst}
-use native.Mathlib.Omega.{arith}
+use Prim.Native.Nat.{◌+◌, ◌-◌, ◌≤◌}
+use mathlib.Core.Path.{◌≡◌}
 use lib.ListN.{length}
 use Rattle.model.specs.Miter.{gates_of}
-use Rattle.table.specs.Rows.{entry_of, HoldsTable}
 use Rattle.table.specs.Buckets.{Indexed}
 use Rattle.miter.specs.Miters.{PairStands}
-use Rattle.laws.specs.MiterOrder.{length_gates}
-use Rattle.fold_laws.specs.Table as model
-use Rattle.listing.specs.Listing.{gate_meant}
-use Rattle.miter.proofs.MiterLaws.{within, few_left, few_right}
-use Rattle.fold.proofs.PassLaws.{after, after_none, after_all, gate_entered}
-use borrow.Author.Rules.{rules}
+use Rattle.fold.proofs.PassLaws.{after}
 use Rattle.fold.proofs.pass.fold.Given as goal
 
 abbrev pub invariant-loop-k : goal.invariant-loop-k

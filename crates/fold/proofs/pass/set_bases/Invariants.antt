@@ -1,14 +1,9 @@
 -- The invariant: the entries of the nets below k stand.
-use Rattle.table.specs.Rows.{entry_of}
-use Prim.Native.Nat.{ℕ, ◌+◌, ◌-◌, ◌≤◌}
-use mathlib.Core.Path.{◌≡◌, refl, sym, ◌∙◌, subst}
-use native.Mathlib.Omega.{arith}
+use Prim.Native.Nat.{◌+◌, ◌-◌, ◌≤◌}
+use mathlib.Core.Path.{◌≡◌}
 use lib.ListN.{length}
 use Rattle.fold_laws.specs.Table as model
-use Rattle.fold_laws.specs.Entries.{length_bases}
 use Rattle.table.specs.Buckets.{Indexed}
-use Rattle.fold.proofs.PassLaws.{bases_none, bases_more}
-use borrow.Author.Rules.{rules}
 use Rattle.fold.proofs.pass.set_bases.Given as goal
 
 abbrev pub invariant-loop-k : goal.invariant-loop-k

@@ -1,6 +1,5 @@
 -- Each branch knows the one test of `digit_of`.
 use borrow.Author.Tests.{lt-ltb, le-ltb}
-use borrow.Author.Rules.{rules}
 use Rattle.frame.proofs.fields.digit_of.Goals as goal
 
 pub returns-then-d-lt10 : goal.returns-then-d-lt10

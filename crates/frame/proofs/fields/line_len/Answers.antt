@@ -3,7 +3,6 @@ use mathlib.Core.Bool.{true, false}
 use mathlib.Core.Path.{refl, sym}
 use Rattle.model.specs.Frames.{widths, total}
 use Rattle.frame.proofs.WriteLaws.{operands_widths, line_by_widths}
-use borrow.Author.Rules.{rules}
 use Rattle.frame.proofs.fields.line_len.Goals as goal
 
 pub returns-in-Header : goal.returns-in-Header

@@ -2,7 +2,6 @@
 use mathlib.Core.Path.{refl}
 use Rattle.model.specs.Frames.{stated_line}
 use Rattle.frame.proofs.WriteLaws.{no_line}
-use borrow.Author.Rules.{rules}
 use borrow.Enum.Refused.{opened}
 use Rattle.frame.proofs.fields.line_number_fits.Goals as goal
 

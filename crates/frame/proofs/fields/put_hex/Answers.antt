@@ -1,10 +1,8 @@
 -- Digits are stored from the last to the first. The invariant: storing the digits that are left gives what storing all of them gives.
-use Prim.Native.Nat.{suc, ◌+◌, ◌-◌, ◌≤◌}
+use Prim.Native.Nat.{suc, ◌-◌}
 use mathlib.Core.Path.{◌≡◌, refl, ◌∙◌}
 use native.Mathlib.Omega.{arith}
-use borrow.Author.Rules.{rules}
-use lib.ListN.{length, length-set}
-use lib.Seq.{sets}
+use lib.ListN.{length-set}
 use Rattle.model.specs.Frames.{hex}
 use Rattle.frame.proofs.WriteLaws.{store_digit}
 use Rattle.frame.proofs.fields.put_hex.Goals as goal

@@ -1,12 +1,9 @@
 -- Digits are stored from the last to the first. The invariant: storing the digits that are left gives what storing all of them gives.
-use Prim.Native.Nat.{suc, ◌+◌, ◌-◌, ◌≤◌}
-use mathlib.Core.Path.{◌≡◌, refl, ◌∙◌}
-use native.Mathlib.Omega.{arith}
-use borrow.Author.Rules.{rules}
-use lib.ListN.{length, length-set}
+use Prim.Native.Nat.{◌+◌, ◌≤◌}
+use mathlib.Core.Path.{◌≡◌}
+use lib.ListN.{length}
 use lib.Seq.{sets}
 use Rattle.model.specs.Frames.{hex}
-use Rattle.frame.proofs.WriteLaws.{store_digit}
 use Rattle.frame.proofs.fields.put_hex.Given as goal
 
 abbrev pub invariant-loop-left : goal.invariant-loop-left

@@ -1,12 +1,11 @@
 -- The kind is stored, then field by field. The invariant: storing the fields that are left, and the LF, gives what storing all of them gives.
-use Prim.Native.Nat.{◌+◌, ◌-◌, ◌≤◌}
 use mathlib.Core.Path.{◌≡◌, refl, ap, ◌∙◌}
 use native.Mathlib.Omega.{arith}
 use borrow.Author.Rules.{rules}
-use lib.ListN.{length, take, length-set}
+use lib.ListN.{length, take}
 use lib.Seq.{length-sets, get_or-take}
-use Rattle.model.specs.Frames.{total, hex, one_byte}
-use Rattle.frame.proofs.WriteLaws.{Storing, field_room, field_stored, fields_stored, width_count, value_count, line_long, line_stored}
+use Rattle.model.specs.Frames.{hex, one_byte}
+use Rattle.frame.proofs.WriteLaws.{field_room, field_stored, fields_stored, width_count, value_count, line_long, line_stored}
 use Rattle.frame.proofs.fields.write_line.Goals as goal
 
 -- LOST same-length

@@ -1,7 +1,6 @@
 -- Less than two bytes are no kind; the kind of two bytes is that of the line (`kind_says`).
 use native.Mathlib.Omega.{arith}
 use Rattle.frame.proofs.KindLaws.{unframed_short, kind_says}
-use borrow.Author.Rules.{rules}
 use Rattle.frame.proofs.kinds.kind_at.Goals as goal
 
 pub returns-then-text-at-lt2 : goal.returns-then-text-at-lt2

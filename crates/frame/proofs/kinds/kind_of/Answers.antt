@@ -1,7 +1,6 @@
 -- The byte is what its two digits spell (`named_byte`).
 use native.Mathlib.Omega.{arith}
 use Rattle.frame.proofs.KindLaws.{named_byte}
-use borrow.Author.Rules.{rules}
 use Rattle.frame.proofs.kinds.kind_of.Goals as goal
 
 pub returns : goal.returns

@@ -6,7 +6,6 @@ use native.Mathlib.Omega.{arith}
 use Rattle.model.specs.Frames.{widths}
 use Rattle.digits.specs.Digits.{value_of}
 use Rattle.frame.proofs.KindLaws.{named, named_op, not_spelt}
-use borrow.Author.Rules.{rules}
 use Rattle.frame.proofs.kinds.spelt_kind.Goals as goal
 
 pub returns-in-12592 : goal.returns-in-12592

@@ -4,7 +4,6 @@ use mathlib.Core.Path.{◌≡◌, sym}
 use mathlib.Core.Bool.{true≢false}
 use native.Mathlib.Omega.{arith}
 use borrow.Author.Tests.{eqb-true, eqb-false}
-use borrow.Author.Rules.{rules}
 use Rattle.frame.proofs.read.feeds.Goals as goal
 
 pub returns-then-text-at : goal.returns-then-text-at

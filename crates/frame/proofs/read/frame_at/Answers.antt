@@ -1,5 +1,4 @@
 -- Each arm has the kind of the line (`kind_at`), and its own reader says the rest; a kind outside the table is refused.
-use borrow.Author.Rules.{rules}
 use Rattle.frame.proofs.read.frame_at.Goals as goal
 
 pub header_at-requires : goal.header_at-requires

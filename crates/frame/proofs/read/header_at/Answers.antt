@@ -4,11 +4,9 @@ use mathlib.Core.Path.{◌≡◌, refl}
 use mathlib.Core.Bool.{true}
 use mathlib.Core.List.{[], ◌∷◌}
 use native.Mathlib.Omega.{arith}
-use borrow.Author.Tests.{not-true, not-false}
 use Rattle.model.specs.Frames.{widths, total, one_byte, two_bytes}
 use Rattle.frame.proofs.FieldLaws.{looked, fielded, unfed, stopped, spelt_more}
 use Rattle.frame.specs.declared.Frame.TheVariants.{Header}
-use borrow.Author.Rules.{rules}
 use Rattle.frame.proofs.read.header_at.Goals as goal
 
 pub returns-then-not-feeds : goal.returns-then-not-feeds

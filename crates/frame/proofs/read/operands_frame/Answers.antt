@@ -3,7 +3,6 @@ use native.Mathlib.Omega.{arith}
 use Rattle.frame.specs.declared.Frame.TheVariants.{Gate, Extend}
 use Rattle.frame.proofs.FieldLaws.{looked}
 use Rattle.frame.proofs.WriteLaws.{operands_widths}
-use borrow.Author.Rules.{rules}
 use Rattle.frame.proofs.read.operands_frame.Goals as goal
 
 pub returns-in_default : goal.returns-in_default

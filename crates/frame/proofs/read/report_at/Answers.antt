@@ -1,15 +1,13 @@
 -- Where LF stands elsewhere, or a field is not all digits, the line has another length than its kind (`unfed`, `stopped`); else it is framed.
-use Prim.Native.Nat.{◌+◌, ◌≤◌}
+use Prim.Native.Nat.{◌+◌}
 use mathlib.Core.Path.{◌≡◌, refl}
 use mathlib.Core.Bool.{true}
 use mathlib.Core.List.{[], ◌∷◌}
 use native.Mathlib.Omega.{arith}
-use lib.ListN.{length}
-use borrow.Author.Tests.{not-true, not-false}
+use borrow.Author.Tests.{not-false}
 use Rattle.model.specs.Frames.{widths, total, one_byte, two_bytes, three_bytes}
 use Rattle.frame.proofs.FieldLaws.{looked, fielded, unfed, stopped, spelt_more}
 use Rattle.frame.specs.declared.Frame.TheVariants.{Report}
-use borrow.Author.Rules.{rules}
 use Rattle.frame.proofs.read.report_at.Goals as goal
 
 pub returns-then-not-feeds : goal.returns-then-not-feeds

@@ -4,10 +4,8 @@ use mathlib.Core.Path.{◌≡◌, refl}
 use mathlib.Core.Bool.{true}
 use mathlib.Core.List.{[], ◌∷◌}
 use native.Mathlib.Omega.{arith}
-use borrow.Author.Tests.{not-true, not-false}
 use Rattle.model.specs.Frames.{total, two_bytes}
 use Rattle.frame.proofs.FieldLaws.{fielded, unfed, stopped, spelt_more}
-use borrow.Author.Rules.{rules}
 use Rattle.frame.proofs.read.resolve_at.Goals as goal
 
 pub returns-then-not-feeds : goal.returns-then-not-feeds

@@ -4,7 +4,6 @@ use native.Mathlib.Omega.{arith}
 use Rattle.model.specs.Frames.{resolve_kind, widths}
 use Rattle.frame.specs.declared.Frame.TheVariants.{Resolve}
 use Rattle.frame.proofs.FieldLaws.{looked}
-use borrow.Author.Rules.{rules}
 use Rattle.frame.proofs.read.resolve_frame.Goals as goal
 
 pub returns-in_default : goal.returns-in_default

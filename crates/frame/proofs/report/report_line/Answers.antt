@@ -1,7 +1,6 @@
 -- The writer's buffer holds the line alone: it has just the room.
 use mathlib.Core.Path.{refl, ◌∙◌}
 use Rattle.frame.proofs.WriteLaws.{report_written}
-use borrow.Author.Rules.{rules}
 use Rattle.frame.proofs.report.report_line.Goals as goal
 
 pub returns : goal.returns

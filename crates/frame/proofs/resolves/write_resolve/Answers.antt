@@ -4,7 +4,6 @@ use native.Mathlib.Omega.{arith}
 use lib.ListN.{length, length-set}
 use lib.Seq.{length-sets}
 use Rattle.frame.proofs.PutLaws.{resolve_stored}
-use borrow.Author.Rules.{rules}
 use Rattle.frame.proofs.resolves.write_resolve.Goals as goal
 
 pub bounds-out-at-2 : goal.bounds-out-at-2

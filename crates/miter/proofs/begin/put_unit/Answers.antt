@@ -1,7 +1,6 @@
 -- A clause of one literal is what the store holds next (`BeginLaws`).
 use Rattle.clause.proofs.PlaceLaws.{holds_own}
 use Rattle.miter.proofs.BeginLaws.{unit_clause, unit_proper, unit_held}
-use borrow.Author.Rules.{rules}
 use Rattle.miter.proofs.begin.put_unit.Goals as goal
 
 pub save-requires : goal.save-requires

@@ -1,11 +1,10 @@
 -- The invariant: of whatever two lists stand in the text, the store holds the first clause and those of the variables before v.
-use Prim.Native.Nat.{ℕ, ◌+◌, ◌-◌, ◌≤◌}
+use Prim.Native.Nat.{ℕ, ◌+◌, ◌-◌}
 use mathlib.Core.Path.{◌≡◌, refl, ◌∙◌}
 use native.Mathlib.Omega.{arith}
 use borrow.Author.Rules.{rules}
 use lib.ListN.{length}
-use Rattle.steps.specs.Progress.{Held}
-use Rattle.miter.specs.Miters.{PairStands, gate_count, gates_up_to}
+use Rattle.miter.specs.Miters.{gate_count, gates_up_to}
 use Rattle.steps.proofs.StepLaws.{few}
 use Rattle.miter.proofs.BeginLaws.{none_yet, variable_held, variable_short}
 use Rattle.miter.proofs.begin.write_variables.Goals as goal

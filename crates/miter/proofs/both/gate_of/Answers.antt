@@ -6,7 +6,6 @@ use lib.ListN.{length}
 use Rattle.model.specs.Miter.{shift}
 use Rattle.listing.specs.Listing.{no_gate}
 use Rattle.miter.proofs.MiterLaws.{few_left, right_literals, moved, left_of, right_gate_of}
-use borrow.Author.Rules.{rules}
 use Rattle.miter.proofs.both.gate_of.Goals as goal
 
 pub returns-then-k-left : goal.returns-then-k-left

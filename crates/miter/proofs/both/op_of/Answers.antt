@@ -6,7 +6,6 @@ use lib.ListN.{length}
 use Rattle.model.specs.Nets.{Gate}
 use Rattle.listing.specs.Listing.{no_gate}
 use Rattle.miter.proofs.MiterLaws.{left_of, right_gate_of}
-use borrow.Author.Rules.{rules}
 use Rattle.miter.proofs.both.op_of.Goals as goal
 
 pub returns-then-k-left : goal.returns-then-k-left

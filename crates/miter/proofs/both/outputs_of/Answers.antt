@@ -6,7 +6,6 @@ use Rattle.model.specs.Nets.{size}
 use Rattle.model.specs.Nets.Op.{xor}
 use Rattle.laws.specs.ListText.{below_at}
 use Rattle.miter.proofs.MiterLaws.{few_left, z_gate_of}
-use borrow.Author.Rules.{rules}
 use Rattle.miter.proofs.both.outputs_of.Goals as goal
 
 pub shift-requires : goal.shift-requires

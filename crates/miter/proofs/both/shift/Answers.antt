@@ -1,7 +1,6 @@
 -- Inputs stay, gates go behind the left list's (`MiterLaws`).
 use native.Mathlib.Omega.{arith}
 use Rattle.miter.proofs.MiterLaws.{shift_input, shift_gate_lem}
-use borrow.Author.Rules.{rules}
 use Rattle.miter.proofs.both.shift.Goals as goal
 
 pub returns-then-variable-inputs : goal.returns-then-variable-inputs

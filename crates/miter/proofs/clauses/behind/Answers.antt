@@ -1,7 +1,6 @@
 -- As many clauses as the gate's definition has (`ClauseLaws`).
 use native.Mathlib.Omega.{arith}
 use Rattle.miter.proofs.ClauseLaws.{count_of, few_each}
-use borrow.Author.Rules.{rules}
 use Rattle.miter.proofs.clauses.behind.Goals as goal
 
 pub overflow_cast-result : goal.overflow_cast-result

@@ -1,15 +1,13 @@
 -- The invariant: the number behind the clauses of the gates below i, from which the count goes on over the others.
-use Prim.Native.Nat.{ℕ, ◌+◌, ◌-◌, ◌*◌, ◌≤◌}
-use mathlib.Core.Path.{◌≡◌, sym, ap, ◌∙◌}
+use Prim.Native.Nat.{ℕ, ◌+◌}
+use mathlib.Core.Path.{sym, ap, ◌∙◌}
 use native.Mathlib.Omega.{arith}
 use lib.ListN.{drop}
 use Rattle.model.specs.Miter.{gates_of}
 use Rattle.laws.specs.MiterOrder.{length_gates}
-use Rattle.miter.specs.Miters.{PairStands}
 use Rattle.miter.proofs.MiterLaws.{few_left, few_right}
-use Rattle.model.specs.Miter.{behind, first_zClause}
+use Rattle.model.specs.Miter.{behind}
 use Rattle.miter.proofs.ClauseLaws.{few_each, from_first, behind_one, behind_all}
-use borrow.Author.Rules.{rules}
 use Rattle.miter.proofs.clauses.first_z_clause.Goals as goal
 
 pub overflow_add-gates : goal.overflow_add-gates
@@ -40,6 +38,9 @@ loop-i-preserved c =
 pub returns : goal.returns
 returns c =
     let l = c.loop-i in
-    let v = c.requires in record { few = omega (arith, few_left v, few_right v); number = λ w.
+    let v = c.requires in record {
+      few = omega (arith, few_left v, few_right v);
+      number = λ w.
           let many = length_gates w.left w.right w.alike in
-          sym (l.invariant.2 w ∙ behind_all (gates_of w.left w.right) l.i l.next (omega (arith, many, w.left_gates, w.right_gates_lem))) }
+          sym (l.invariant.2 w ∙ behind_all (gates_of w.left w.right) l.i l.next (omega (arith, many, w.left_gates, w.right_gates_lem)));
+    }

@@ -1,15 +1,10 @@
 -- The invariant: the number behind the clauses of the gates below i, from which the count goes on over the others.
-use Prim.Native.Nat.{ℕ, ◌+◌, ◌-◌, ◌*◌, ◌≤◌}
-use mathlib.Core.Path.{◌≡◌, sym, ap, ◌∙◌}
-use native.Mathlib.Omega.{arith}
+use Prim.Native.Nat.{◌+◌, ◌-◌, ◌*◌, ◌≤◌}
+use mathlib.Core.Path.{◌≡◌}
 use lib.ListN.{drop}
 use Rattle.model.specs.Miter.{gates_of}
-use Rattle.laws.specs.MiterOrder.{length_gates}
 use Rattle.miter.specs.Miters.{PairStands}
-use Rattle.miter.proofs.MiterLaws.{few_left, few_right}
 use Rattle.model.specs.Miter.{behind, first_zClause}
-use Rattle.miter.proofs.ClauseLaws.{few_each, from_first, behind_one, behind_all}
-use borrow.Author.Rules.{rules}
 use Rattle.miter.proofs.clauses.first_z_clause.Given as goal
 
 abbrev pub invariant-loop-i : goal.invariant-loop-i

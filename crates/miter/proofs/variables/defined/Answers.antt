@@ -1,6 +1,5 @@
 -- The literals are those that the gate states, and they are over variables below its own (`MiterLaws`).
 use Rattle.miter.proofs.MiterLaws.{gate_defines}
-use borrow.Author.Rules.{rules}
 use Rattle.miter.proofs.variables.defined.Goals as goal
 
 pub returns : goal.returns

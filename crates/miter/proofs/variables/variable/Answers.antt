@@ -2,7 +2,6 @@
 use native.Mathlib.Omega.{arith}
 use mathlib.Core.Path.{◌∙◌}
 use Rattle.miter.proofs.MiterLaws.{gate_variable, z_variable, w_variable_lem, read_variable}
-use borrow.Author.Rules.{rules}
 use Rattle.miter.proofs.variables.variable.Goals as goal
 
 pub returns-then-v-z : goal.returns-then-v-z

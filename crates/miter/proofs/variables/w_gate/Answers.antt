@@ -1,7 +1,6 @@
 -- An OR is an AND of complements (`MiterLaws`).
 use native.Mathlib.Omega.{arith}
 use Rattle.miter.proofs.MiterLaws.{w_low, w_defines}
-use borrow.Author.Rules.{rules}
 use Rattle.miter.proofs.variables.w_gate.Goals as goal
 
 pub overflow_cast-w_variable : goal.overflow_cast-w_variable

@@ -1,6 +1,5 @@
 -- Behind the first, the w before it is one variable back (`MiterLaws`).
 use Rattle.miter.proofs.MiterLaws.{w_behind}
-use borrow.Author.Rules.{rules}
 use Rattle.miter.proofs.variables.w_variable.Goals as goal
 
 pub returns : goal.returns

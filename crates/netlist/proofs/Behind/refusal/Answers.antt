@@ -1,5 +1,4 @@
 -- Each arm knows its case of the enum.
-use borrow.Author.Rules.{rules}
 use Rattle.netlist.proofs.Behind.refusal.Goals as goal
 
 pub returns-in-At : goal.returns-in-At

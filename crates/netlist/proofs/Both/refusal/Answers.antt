@@ -1,5 +1,4 @@
 -- Each arm knows its case of the enum.
-use borrow.Author.Rules.{rules}
 use Rattle.netlist.proofs.Both.refusal.Goals as goal
 
 pub returns-in-Paired : goal.returns-in-Paired

@@ -2,7 +2,6 @@
 use Rattle.netlist.specs.Says.{from}
 use Rattle.netlist.proofs.DueLaws.{due_missing, gate_due}
 use Rattle.netlist.proofs.LineLaws.{not_gate, gate_other, gate_over_lem}
-use borrow.Author.Rules.{rules}
 use borrow.Enum.Refused.{opened}
 use Rattle.netlist.proofs.lines.gate_refusal.Goals as goal
 

@@ -2,7 +2,6 @@
 use Rattle.netlist.specs.Says.{from}
 use Rattle.netlist.proofs.DueLaws.{due_missing, output_due}
 use Rattle.netlist.proofs.LineLaws.{not_output, output_other, output_over}
-use borrow.Author.Rules.{rules}
 use borrow.Enum.Refused.{opened}
 use Rattle.netlist.proofs.lines.output_refusal.Goals as goal
 

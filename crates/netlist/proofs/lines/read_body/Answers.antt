@@ -1,6 +1,5 @@
 -- The gates' answer and then the outputs', put together to the body's (`ListLaws`).
 use Rattle.netlist.proofs.ListLaws.{gates_refuse, body_says}
-use borrow.Author.Rules.{rules}
 use Rattle.netlist.proofs.lines.read_body.Goals as goal
 
 pub returns-in_default : goal.returns-in_default

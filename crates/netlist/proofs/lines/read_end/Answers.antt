@@ -1,7 +1,6 @@
 -- Nothing is left, or what is there is refused (`LineLaws`).
 use mathlib.Core.Path.{refl}
 use Rattle.netlist.proofs.LineLaws.{end_none, end_other}
-use borrow.Author.Rules.{rules}
 use borrow.Enum.Refused.{opened}
 use Rattle.netlist.proofs.lines.read_end.Goals as goal
 

@@ -2,7 +2,6 @@
 use native.Mathlib.Omega.{arith}
 use Rattle.netlist.proofs.LoopLaws.{gates_refused}
 use Rattle.netlist.proofs.PlainLaws.{all_gates}
-use borrow.Author.Rules.{rules}
 use Rattle.netlist.proofs.lines.read_gates.Goals as goal
 
 pub gate_refusal-requires : goal.gate_refusal-requires

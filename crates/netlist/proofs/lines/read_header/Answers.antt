@@ -11,7 +11,6 @@ use Rattle.model.specs.Lists.{read_list}
 use Rattle.netlist.specs.Says.{from}
 use Rattle.netlist.proofs.DueLaws.{due_missing, header_due}
 use Rattle.netlist.proofs.LineLaws.{not_header, header_other, header_range, header_read}
-use borrow.Author.Rules.{rules}
 use borrow.Enum.Refused.{opened}
 use Rattle.netlist.proofs.lines.read_header.Goals as goal
 

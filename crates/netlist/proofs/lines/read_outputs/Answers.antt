@@ -2,7 +2,6 @@
 use native.Mathlib.Omega.{arith}
 use Rattle.netlist.proofs.LoopLaws.{outputs_refused}
 use Rattle.netlist.proofs.PlainLaws.{all_outputs}
-use borrow.Author.Rules.{rules}
 use Rattle.netlist.proofs.lines.read_outputs.Goals as goal
 
 pub output_refusal-requires : goal.output_refusal-requires

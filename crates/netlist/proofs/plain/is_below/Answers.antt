@@ -3,7 +3,6 @@ use mathlib.Core.Path.{ap, ◌∙◌}
 use Prim.Native.Nat.{ℕ}
 use lib.Dec.{ltb}
 use Rattle.model.specs.Nets.{net_of}
-use borrow.Author.Rules.{rules}
 use Rattle.netlist.proofs.plain.is_below.Goals as goal
 
 pub returns : goal.returns

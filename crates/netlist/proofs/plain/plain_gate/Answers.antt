@@ -3,7 +3,6 @@ use mathlib.Core.Bool.{false}
 use borrow.Author.Tests.{not-true, not-false}
 use Rattle.frame.proofs.WriteLaws.{operands_widths}
 use Rattle.netlist.proofs.PlainLaws.{not_gate, refused_gate, plain_gate}
-use borrow.Author.Rules.{rules}
 use borrow.Enum.Refused.{opened}
 use Rattle.netlist.proofs.plain.plain_gate.Goals as goal
 

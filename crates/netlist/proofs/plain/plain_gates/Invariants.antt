@@ -1,11 +1,7 @@
 -- The invariant: the row goes as far as i (`PlainLaws`).
 use Prim.Native.Nat.{◌+◌, ◌-◌, ◌≤◌}
-use native.Mathlib.Omega.{arith}
-use borrow.Author.Rules.{rules}
-use borrow.Author.Tests.{not-true, not-false}
 use Rattle.model.specs.Limits.{most_inputs, most_gates}
 use Rattle.netlist.specs.Plain.{Row}
-use Rattle.netlist.proofs.PlainLaws.{row_of_none, row_place, row_more}
 use Rattle.netlist.proofs.plain.plain_gates.Given as goal
 
 abbrev pub invariant-loop-i : goal.invariant-loop-i

@@ -2,7 +2,6 @@
 use mathlib.Core.Path.{refl}
 use Rattle.model.specs.Frames.{output_kind, widths}
 use Rattle.netlist.proofs.PlainLaws.{not_output, refused_output, plain_output}
-use borrow.Author.Rules.{rules}
 use borrow.Enum.Refused.{opened}
 use Rattle.netlist.proofs.plain.plain_output.Goals as goal
 

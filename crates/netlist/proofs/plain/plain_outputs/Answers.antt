@@ -1,10 +1,7 @@
 -- The invariant: the row goes as far as i (`PlainLaws`).
-use Prim.Native.Nat.{◌-◌, ◌≤◌}
 use native.Mathlib.Omega.{arith}
 use borrow.Author.Rules.{rules}
 use borrow.Author.Tests.{not-true, not-false}
-use Rattle.model.specs.Limits.{most_outputs}
-use Rattle.netlist.specs.Plain.{OutputRow}
 use Rattle.netlist.proofs.PlainLaws.{outputs_of_none, outputs_place, outputs_one_more}
 use Rattle.netlist.proofs.plain.plain_outputs.Goals as goal
 

@@ -2,7 +2,6 @@
 use native.Mathlib.Omega.{arith}
 use Rattle.table.specs.Buckets.{mixed}
 use Rattle.table.proofs.BucketLaws.{scaled, scaled_low, no_key, some_key}
-use borrow.Author.Rules.{rules}
 use Rattle.table.proofs.buckets.bucket.Goals as goal
 
 pub returns-then-a-eq0 : goal.returns-then-a-eq0

@@ -2,7 +2,6 @@
 use native.Mathlib.Omega.{arith}
 use Rattle.clearing.proofs.ClearLaws.{cleared_at}
 use Rattle.table.proofs.BucketLaws.{index_none}
-use borrow.Author.Rules.{rules}
 use Rattle.table.proofs.buckets.empty.Goals as goal
 
 pub returns : goal.returns

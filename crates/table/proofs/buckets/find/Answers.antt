@@ -1,16 +1,9 @@
 -- The invariant: the walk along the chain has come to `next` (`Walk`). The measure is `next`: each link of a chain is lower than the one before.
-use Prim.Native.Nat.{suc, ◌-◌, ◌≤◌}
+use Prim.Native.Nat.{suc, ◌-◌}
 use mathlib.Core.Path.{◌≡◌, sym, ◌∙◌}
-use mathlib.Core.Logic.{⊎_elim}
-use mathlib.Core.Bool.{Bool}
-use mathlib.Core.List.{List}
 use native.Mathlib.Omega.{arith}
-use lib.ListN.{length}
-use Rattle.fold_laws.specs.Table as model
-use Rattle.table.specs.Buckets.{Indexed}
 use Rattle.table.proofs.RowLaws.{search_next, search_here}
 use Rattle.table.proofs.BucketLaws.{Walk, walk_begins, walk_on}
-use borrow.Author.Rules.{rules}
 use Rattle.table.proofs.buckets.find.Goals as goal
 use Rattle.table.proofs.buckets.find.Goals.{then-fits, else-fits}
 
@@ -34,7 +27,7 @@ loop-next-preserved c =
           let w : Walk a.nets t k a.a.code a.b.code a.v (suc u) l.found = rw m (l.invariant.1 t k x n e) in
           walk_on a.nets t k a.a.code a.b.code a.v a.work.now x n c.at_most-next-in-loop-next.result u l.found c.if-fits.found (omega arith) w
           (elim c.if-fits.branch [
-            then-fits q ↦ q.found-is ∙ sym (search_here k a.a.code a.b.code t a.v u (omega arith) (sym (f t k x.rows (omega arith) e) ∙ q.if-fits.true))
+            | then-fits q ↦ q.found-is ∙ sym (search_here k a.a.code a.b.code t a.v u (omega arith) (sym (f t k x.rows (omega arith) e) ∙ q.if-fits.true))
             | else-fits q ↦ q.found-is ∙ w.first ∙ sym (search_next k a.a.code a.b.code t a.v u (omega arith) (sym (f t k x.rows (omega arith) e) ∙ q.if-fits.false))
           ])
           c.at_most-next-in-loop-next.ensures.1,

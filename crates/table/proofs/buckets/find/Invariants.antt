@@ -1,16 +1,12 @@
 -- The invariant: the walk along the chain has come to `next` (`Walk`). The measure is `next`: each link of a chain is lower than the one before.
-use Prim.Native.Nat.{suc, ◌-◌, ◌≤◌}
-use mathlib.Core.Path.{◌≡◌, sym, ◌∙◌}
-use mathlib.Core.Logic.{⊎_elim}
+use Prim.Native.Nat.{◌≤◌}
+use mathlib.Core.Path.{◌≡◌}
 use mathlib.Core.Bool.{Bool}
 use mathlib.Core.List.{List}
-use native.Mathlib.Omega.{arith}
 use lib.ListN.{length}
 use Rattle.fold_laws.specs.Table as model
 use Rattle.table.specs.Buckets.{Indexed}
-use Rattle.table.proofs.RowLaws.{search_next, search_here}
-use Rattle.table.proofs.BucketLaws.{Walk, walk_begins, walk_on}
-use borrow.Author.Rules.{rules}
+use Rattle.table.proofs.BucketLaws.{Walk}
 use Rattle.table.proofs.buckets.find.Given as goal
 
 abbrev pub invariant-loop-next : goal.invariant-loop-next

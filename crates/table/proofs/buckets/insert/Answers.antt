@@ -1,10 +1,8 @@
 -- The head of the bucket is the net's next, and the net its new head; then the row is stored (`inserted`).
 use native.Mathlib.Omega.{arith}
 use lib.ListN.{length-set}
-use lib.Seq.{length-sets}
 use Rattle.table.specs.Rows.{entry_of}
 use Rattle.table.proofs.BucketLaws.{inserted}
-use borrow.Author.Rules.{rules}
 use Rattle.table.proofs.buckets.insert.Goals as goal
 
 -- LOST same-length

@@ -1,5 +1,4 @@
 -- The number of the literal's net at its sign.
-use borrow.Author.Rules.{rules}
 use Rattle.table.proofs.links.link.Goals as goal
 
 pub returns : goal.returns

@@ -1,5 +1,4 @@
 -- A number that is there is the one of the links.
-use borrow.Author.Rules.{rules}
 use Rattle.table.proofs.links.number_at.Goals as goal
 
 pub returns : goal.returns

@@ -1,7 +1,6 @@
 -- The row's last number in use (`core_at`).
 use mathlib.Core.Path.{◌∙◌}
 use Rattle.table.proofs.RowLaws.{core_at}
-use borrow.Author.Rules.{rules}
 use Rattle.table.proofs.rows.core_of.Goals as goal
 
 pub returns : goal.returns

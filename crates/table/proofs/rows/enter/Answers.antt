@@ -4,7 +4,6 @@ use native.Mathlib.Omega.{arith}
 use lib.ListN.{length-set}
 use Rattle.table.specs.Rows.{row_width}
 use Rattle.table.proofs.RowLaws.{row_stored}
-use borrow.Author.Rules.{rules}
 use Rattle.table.proofs.rows.enter.Goals as goal
 
 pub bounds-work-at-2 : goal.bounds-work-at-2

@@ -1,6 +1,5 @@
 -- The numbers of the row, one after the other, as the definition tests them.
 use Rattle.table.proofs.RowLaws.{other_first, other_second, same_key}
-use borrow.Author.Rules.{rules}
 use Rattle.table.proofs.rows.fits.Goals as goal
 
 pub returns-then-work-at : goal.returns-then-work-at

@@ -1,5 +1,4 @@
 -- No key is zeros.
-use borrow.Author.Rules.{rules}
 use Rattle.table.proofs.rows.keyless.Goals as goal
 
 pub returns : goal.returns

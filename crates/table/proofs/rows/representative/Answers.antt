@@ -1,8 +1,5 @@
 -- The first number of the net's row, with the sign of the literal.
-use mathlib.Core.Path.{◌∙◌}
-use native.Mathlib.Omega.{arith}
 use Rattle.table.proofs.RowLaws.{signed_rep}
-use borrow.Author.Rules.{rules}
 use Rattle.table.proofs.rows.representative.Goals as goal
 
 pub returns : goal.returns
