@@ -4,8 +4,8 @@
 usage: tools/snake_names.py [--list]      at the top of the repository, once, after the kit's port.py
 
 A lemma that would have its definition's name gets `_lem`. What turns: each name that a file of crates/*/specs or of crates/*/proofs (but no proof of one function) declares and that is written in camel
-case or with dashes: definitions, lemmas, fields of records, constructors and names of a `where`; `lineOf` and `line-of` become `line_of`. What
-stays: names of types and modules, names that the library declares and this repository does not, and what Rattle makes itself for the proof of a
+case or with dashes: definitions, lemmas, fields of records, constructors and names of a `where`; `lineOf` and `line-of` become `line_of`, and a
+module that a file calls `frame-case` becomes `FrameCase`. What stays: names of types and modules, names that the library declares and this repository does not, and what Rattle makes itself for the proof of a
 function (the names behind `tie.` and those of its steps). In .rt files only words outside comments and strings turn: no name of the code itself
 has camel case or a dash. --list prints the table and writes nothing. Names that would fall together in a file are printed and nothing is written.
 """
@@ -23,13 +23,13 @@ DECLARED = re.compile(
     r'(?m)^ *(?:(?:abbrev|unfoldable|pub|private|opaque) +)*([^\s(){}.;,@"«»]+)(?: \{[^{}\n]*\}| \([^()\n]*\))* :(?![^\s])'
 )
 # Local names, which no declaration has.
-LOCAL = "firstLine model-lines not-x not-y true-r".split()
+LOCAL = "cutTree firstLine from-two model-lines not-x not-y true-r".split()
 # Lemmas that port.py spelled like their definition will be.
 ALONE = {
     "crates/frame/proofs/LoneLaws.antt": {"end_by": "end_by_lem"},
     "crates/frame/proofs/RoundTrip.antt": {"frame_back": "frame_back_lem"},
 }
-PROOF = re.compile(r"/(Proof|Answers|Invariants)\.antt$")
+PROOF = re.compile(r"/proofs/.*/(Proof|Answers|Invariants)\.antt$")
 
 
 def is_turned(word):
@@ -37,12 +37,12 @@ def is_turned(word):
 
 
 def in_snake_case(word):
-    return re.sub(r"(?<=[a-z0-9])[A-Z]", lambda m: "_" + m[0].lower(), word).replace("-", "_")
+    return re.sub(r"(?<=[a-z0-9])[A-Z]|(?<=[A-Z])[A-Z](?=[a-z])", lambda m: "_" + m[0].lower(), word).replace("-", "_")
 
 
 def files(top, *endings):
     for folder, dirs, names in os.walk(top):
-        dirs[:] = sorted(d for d in dirs if d != "out")
+        dirs[:] = sorted(d for d in dirs if d != "out" or "/proofs" in folder)
         for name in sorted(names):
             if name.endswith(endings):
                 path = os.path.join(folder, name)
@@ -63,7 +63,10 @@ def table(top):
         if not PROOF.search(path):
             taken.update(DECLARED.findall(QUIET.sub(" ", text)))
     spelled = {it: in_snake_case(it) for it in sorted(found)}
-    return {it: new + "_lem" if "-" in it and new in taken else new for it, new in spelled.items()}
+    # a module's other name is a module's: camel case
+    aliases = {it for _, text in files(top, ".antt") for it in re.findall(r"(?m)^ *use \S+ as (\S+-\S+)$", text)} - found
+    modules = {it: "".join(part[:1].upper() + part[1:] for part in it.split("-")) for it in sorted(aliases)}
+    return modules | {it: new + "_lem" if "-" in it and new in taken else new for it, new in spelled.items()}
 
 
 def made_names(code):

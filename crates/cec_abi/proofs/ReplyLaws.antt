@@ -12,7 +12,7 @@ use Rattle.model.specs.Nets.{Netlist}
 use Rattle.model.specs.Lists.{Lists}
 use Rattle.model.specs.Steps.{State}
 use Rattle.model.specs.Checker.{check}
-use Rattle.laws.specs.Answers.{ok-injective}
+use Rattle.laws.specs.Answers.{ok_injective}
 use Rattle.laws.specs.Places.{Placed, check_placed}
 use Rattle.laws.specs.Places.Placed.{place}
 use Rattle.laws.specs.Soundness.{AgreeingLists, sound}
@@ -69,7 +69,7 @@ unpaired number line (refused m n) e = cc
 
 pub accepted : (steps clauses : ℕ) (a : Answer State) → ok (record { steps = steps; clauses = clauses }) ≡ counted_of a → 0 ∷ 0 ∷ steps ∷ clauses ∷ [] ≡ check_reply a
 accepted steps clauses (ok s) e =
-    let c = ok-injective e in
+    let c = ok_injective e in
     let a : steps ≡ s.steps = ap (λ (c : Counted). c.steps) c in
     let b : clauses ≡ length s.clauses = ap (λ (c : Counted). c.clauses) c in
     rw (a, b)

@@ -12,7 +12,7 @@ use Rattle.model.specs.Answers.Answer.{ok, refused}
 use Rattle.model.specs.Frames.{line_of}
 use Rattle.model.specs.Nets.{Netlist}
 use Rattle.model.specs.Lists.{read_one}
-use Rattle.laws.specs.Answers.{ok-injective, refused_not_ok}
+use Rattle.laws.specs.Answers.{ok_injective, refused_not_ok}
 use Rattle.laws.specs.Reading.{one_good}
 use Rattle.laws.specs.Places.{placed_bind, one_placed}
 use Rattle.laws.specs.Places.Placed.{result}
@@ -39,7 +39,7 @@ module _ (stream : List ℕ) where
   few (refused number line) e k f = absurd (refused_not_ok (sym f))
   few (ok n) e k f =
       let g = one_good stream n e in
-      rw (ok-injective f) (record { inputs = g.inputs; gates = g.gates; outputs = g.outs })
+      rw (ok_injective f) (record { inputs = g.inputs; gates = g.gates; outputs = g.outs })
 
   pub counts_few : (k : Counts) → ok k ≡ counts_of (listed stream) → Few k
   unfolding listed guard
@@ -57,7 +57,7 @@ module _ (stream : List ℕ) where
 -- ---- the line of each case
 
 pub counted_line : (a : Answer Netlist) (k : Counts) → ok k ≡ counts_of a → line_of (counts_frame k) ≡ line_of (frame_for a)
-counted_line (ok n) k e = ap (λ (c : Counts). line_of (counts_frame c)) (ok-injective e)
+counted_line (ok n) k e = ap (λ (c : Counts). line_of (counts_frame c)) (ok_injective e)
 counted_line (refused number line) k e = absurd (refused_not_ok (sym e))
 
 pub refused_line : (a : Answer Netlist) (number line : ℕ) → refused number line ≡ counts_of a → line_of (report number line 0 0) ≡ line_of (frame_for a)

@@ -13,7 +13,7 @@ use Rattle.model.specs.Answers.Answer.{ok, refused}
 use Rattle.model.specs.Lists.{Lists, read_lists}
 use Rattle.model.specs.Frames.{stated_line, line_of, write_frame, written_frame}
 use Rattle.model.specs.Engine.{line_bound, working, provable, Outcome, Engine}
-use Rattle.laws.specs.Answers.{ok-injective, refused_not_ok}
+use Rattle.laws.specs.Answers.{ok_injective, refused_not_ok}
 use Rattle.laws.specs.Reading.{lists_good}
 use Rattle.laws.specs.Places.{provable_placed}
 use Rattle.laws.specs.Streams.{over_limit, within_limit, limited_placed, placed_line}
@@ -64,7 +64,7 @@ module _ (stream : List ℕ) where
       go : (a : Answer Lists) → due_to stream ≡ a → (r : Proved) → Outcome stream proof_bytes working_numbers a (proved_of r) out work → Answered stream r out work
       go (ok l) e (Lines n) (m, proof, reply, v, o, w) =
           let fits : length proof + (proof_bytes - length proof) ≡ proof_bytes = simp (length-append, length-replicate) at (sym (ap length o) ∙ long) in
-          let c = ok-injective reply in
+          let c = ok_injective reply in
           (l, proof, e, rw c v, omega (arith, fits, c, v.bytes), o, w)
       go (ok l) e (Refused r) (m, proof, reply, v, o, w) = absurd (refused_not_ok reply)
       go (refused number line) e (Lines n) (reply, o, w) = absurd (refused_not_ok (sym reply))

@@ -15,8 +15,8 @@ use Rattle.model.specs.Frames as frames
 use Rattle.model.specs.Frames.{due_at, resolve_kind, widths}
 use Rattle.model.specs.Steps.{State, step, is_step, step_of, step_at, replay}
 use Rattle.model.specs.Steps.Step.{resolve}
-use Rattle.frame.specs.contracts.Frame as frame-type
-use Rattle.frame.specs.contracts.Line as line-type
+use Rattle.frame.specs.contracts.Frame as FrameType
+use Rattle.frame.specs.contracts.Line as LineType
 use Rattle.frame.specs.declared.Op.{Op}
 use Rattle.frame.specs.declared.Op.TheVariants.{And, Xor}
 use Rattle.frame.specs.declared.Frame.{Frame}
@@ -25,7 +25,7 @@ use Rattle.frame.specs.declared.Line.{Line}
 use Rattle.frame.specs.declared.Line.TheVariants.{Read, End, Refused}
 use Rattle.frame.specs.declared.Cursor.{Cursor}
 use Rattle.frame.specs.declared.kinds.Kind.{Kind}
-use Rattle.frame.specs.declared.kinds.Kind.TheVariants as kind-case
+use Rattle.frame.specs.declared.kinds.Kind.TheVariants as KindCase
 use Rattle.frame.specs.declared.read.Resolve as read
 use Rattle.frame.specs.declared.read.Resolve.TheVariants.{Of}
 use Rattle.frame.specs.Kinds.{KindSays}
@@ -35,7 +35,7 @@ use Rattle.frame.proofs.FirstLaws.{first_none, first_fault, first_found}
 use Rattle.netlist.specs.Says.{from}
 use Rattle.steps.specs.declared.Progress.{Progress}
 use Rattle.refusal.specs.declared.Refusal.{Refusal}
-use Rattle.steps.specs.declared.Stepped.TheVariants as stepped-case
+use Rattle.steps.specs.declared.Stepped.TheVariants as SteppedCase
 use Rattle.steps.specs.declared.Stepped.TheVariants.{Done}
 use Rattle.steps.specs.Progress.{extension, Tracks, Within, Says}
 use Rattle.checker.specs.Lines.{frame_step, ended_of}
@@ -52,7 +52,7 @@ unfolding frame_step guard
 frame_extend room line s And x y = refl
 frame_extend room line s Xor x y = refl
 
-pub frame_other : (room line : ℕ) (s : State) (f : Frame) → OneOf (0 ∷ 1 ∷ 2 ∷ 5 ∷ []) (tag_of frame-type.the_type f)
+pub frame_other : (room line : ℕ) (s : State) (f : Frame) → OneOf (0 ∷ 1 ∷ 2 ∷ 5 ∷ []) (tag_of FrameType.the_type f)
     → frame_step room line s (frame_of f) ≡ refused 3 line
 unfolding frame_step guard
 frame_other room line s (Header i g o) k = refl
@@ -83,7 +83,7 @@ replay_read room s text c got e f next is =
 
 -- no frame stands there
 pub replay_ended : (room : ℕ) (s : State) (text : List ℕ) (c : Cursor) (got : Line) → first_of text got ≡ first (from text c) c.line
-    → OneOf (1 ∷ 2 ∷ []) (tag_of line-type.the_type got) → (store : List ℕ) (p : Progress) → Tracks store p s → Within store p room
+    → OneOf (1 ∷ 2 ∷ []) (tag_of LineType.the_type got) → (store : List ℕ) (p : Progress) → Tracks store p s → Within store p room
     → Says room (replay room s (from text c) c.line) store (ended_of got p)
 unfolding replay step_at due_at
 replay_ended room s text c (Read f next) e k store p t w = absurd (miss (1 ∷ 2 ∷ []) 0 tt k)
@@ -143,17 +143,17 @@ module _ (room : ℕ) (text : List ℕ) (c : Cursor) (got : Line) (e : first_of 
             record { state = k.0; tracks = k.2; same = replay_step room s text c got e f next is k.0 k.1 };
       }
 
-  pub line_refused : (x : Refusal) (store' : List ℕ) → ((s : State) → Tracks store p s → Says room (frame_step room c.line s (frame_of f)) store' (stepped-case.Refused x))
+  pub line_refused : (x : Refusal) (store' : List ℕ) → ((s : State) → Tracks store p s → Says room (frame_step room c.line s (frame_of f)) store' (SteppedCase.Refused x))
       → (s : State) → Tracks store p s → replay room s (from text c) c.line ≡ refused x.number x.line
   line_refused x store' step s t = replay_refused room s text c got e f next is x.number x.line (step s t)
 
 -- ---- a resolve, read without a frame
 
-pub resolve_line : (text : List ℕ) (at : ℕ) {k : Kind} {r : read.Resolve} {a b v : ℕ} → KindSays text at k → k ≡ kind-case.Resolve → ResolveSays text at r → r ≡ Of a b v
+pub resolve_line : (text : List ℕ) (at : ℕ) {k : Kind} {r : read.Resolve} {a b v : ℕ} → KindSays text at k → k ≡ KindCase.Resolve → ResolveSays text at r → r ≡ Of a b v
     → LineAt text at proof_line_bytes resolve_kind (a ∷ b ∷ v ∷ [])
 unfolding widths
 resolve_line text at {k} {r} {a} {b} {v} says is fields of =
-    let kind : KindSays text at kind-case.Resolve = rw is at says in
+    let kind : KindSays text at KindCase.Resolve = rw is at says in
     let line : ResolveSays text at (Of a b v) = rw of at fields in
     line resolve_kind kind refl
 
@@ -174,6 +174,6 @@ module _ (room : ℕ) (text : List ℕ) (c : Cursor) (i : Inside text c) {a b v 
     ran_resolve q w n does =
         ran_line room text c (Read (Resolve a b v) (behind c)) resolve_read (Resolve a b v) (behind c) refl store p store' q behind_resolve w n (λ s t. rw (frame_resolve room c.line s a b v) (does s t))
 
-    pub resolve_refused : (x : Refusal) → ((s : State) → Tracks store p s → Says room (step room c.line s (resolve a b v)) store' (stepped-case.Refused x))
+    pub resolve_refused : (x : Refusal) → ((s : State) → Tracks store p s → Says room (step room c.line s (resolve a b v)) store' (SteppedCase.Refused x))
         → (s : State) → Tracks store p s → replay room s (from text c) c.line ≡ refused x.number x.line
     resolve_refused x does = line_refused room text c (Read (Resolve a b v) (behind c)) resolve_read (Resolve a b v) (behind c) refl store p x store' (λ s t. rw (frame_resolve room c.line s a b v) (does s t))

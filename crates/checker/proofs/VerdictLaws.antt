@@ -16,7 +16,7 @@ use Rattle.model.specs.Lists.{Lists, read_both}
 use Rattle.model.specs.Miter.{miter}
 use Rattle.model.specs.Steps.{State, replay}
 use Rattle.model.specs.Checker.{begin, verdict_on, capacity, check, stored_all}
-use Rattle.netlist.specs.contracts.Both as both-type
+use Rattle.netlist.specs.contracts.Both as BothType
 use Rattle.netlist.specs.declared.Pair.{Pair}
 use Rattle.netlist.specs.declared.Both.{Both}
 use Rattle.netlist.specs.declared.Both.TheVariants.{Paired, Refused}
@@ -74,7 +74,7 @@ module _ {text : List ℕ} {p : Pair} (b : BothLists text p) (n room : ℕ) (is 
     accepted s e f = replayed s e ∙ rw f
 
 -- where the lists are refused
-pub unread : (text : List ℕ) (n : ℕ) (got : Both) → pair_reply got ≡ both_of (read_both text) → OneOf (1 ∷ []) (tag_of both-type.the_type got)
+pub unread : (text : List ℕ) (n : ℕ) (got : Both) → pair_reply got ≡ both_of (read_both text) → OneOf (1 ∷ []) (tag_of BothType.the_type got)
     → check text n ≡ refused (both_refusal got).number (both_refusal got).line
 unfolding check
 unread text n (Paired p) e k = absurd (miss (1 ∷ []) 0 tt k)

@@ -4,7 +4,7 @@ use Rattle.model.specs.Answers.{Answer, guard}
 use Rattle.model.specs.Frames.{Frame, resolve_kind}
 use Rattle.model.specs.Steps.{State, step, is_step, step_of}
 use Rattle.frame.specs.declared.Line.{Line}
-use Rattle.frame.specs.declared.Line.TheVariants as line-case
+use Rattle.frame.specs.declared.Line.TheVariants as LineCase
 use Rattle.steps.specs.declared.Progress.{Progress}
 use Rattle.steps.specs.declared.Stepped.{Stepped}
 use Rattle.steps.specs.declared.Stepped.TheVariants.{Done, Refused}
@@ -15,6 +15,6 @@ frame_step room line s f = guard (is_step f.kind) 3 line (step room line s (step
 
 -- where no frame stands: the end of the proof, or the line's refusal
 abbrev pub ended_of : Line → Progress → Stepped
-ended_of (line-case.Refused number line) p = Refused (record { number = number; line = line })
-ended_of line-case.End p = Done p
-ended_of (line-case.Read f next) p = Done p
+ended_of (LineCase.Refused number line) p = Refused (record { number = number; line = line })
+ended_of LineCase.End p = Done p
+ended_of (LineCase.Read f next) p = Done p

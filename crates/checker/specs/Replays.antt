@@ -7,7 +7,7 @@ use Rattle.frame.specs.Frames.{Inside}
 use Rattle.netlist.specs.Says.{from}
 use Rattle.steps.specs.declared.Progress.{Progress}
 use Rattle.steps.specs.declared.Stepped as stepped
-use Rattle.steps.specs.declared.Stepped.TheVariants as stepped-case
+use Rattle.steps.specs.declared.Stepped.TheVariants as SteppedCase
 use Rattle.checker.specs.declared.replay.Ran.{Ran}
 use Rattle.checker.specs.declared.replay.Ran.TheVariants.{At, Refused}
 use Rattle.steps.specs.Progress.{Tracks, Within}
@@ -30,5 +30,5 @@ RanSays room text c₀ store₀ p₀ store (At c p) = RanTo room text c₀ store
 RanSays room text c₀ store₀ p₀ store (Refused r) = (s : State) → Tracks store₀ p₀ s → replay room s (from text c₀) c₀.line ≡ refused r.number r.line
 
 abbrev pub stopped_of : Ran → stepped.Stepped
-stopped_of (At c p) = stepped-case.Done p
-stopped_of (Refused r) = stepped-case.Refused r
+stopped_of (At c p) = SteppedCase.Done p
+stopped_of (Refused r) = SteppedCase.Refused r

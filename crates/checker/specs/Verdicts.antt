@@ -8,7 +8,7 @@ use Rattle.laws.specs.Soundness.{AgreeingLists}
 use Rattle.steps.specs.declared.Stepped.{Stepped}
 use Rattle.steps.specs.declared.Stepped.TheVariants.{Done, Refused}
 use Rattle.checker.specs.declared.Checked.{Checked}
-use Rattle.checker.specs.declared.Checked.TheVariants as checked-case
+use Rattle.checker.specs.declared.Checked.TheVariants as CheckedCase
 use Rattle.checker.specs.declared.Checked.TheVariants.{Accepted}
 use Rattle.steps.specs.Progress.{Tracks}
 
@@ -29,9 +29,9 @@ counted_of a = bind a λ s. ok (record { steps = s.steps; clauses = length s.cla
 
 abbrev pub checked_of : Checked → Answer Counted
 checked_of (Accepted steps clauses) = ok (record { steps = steps; clauses = clauses })
-checked_of (checked-case.Refused r) = refused r.number r.line
+checked_of (CheckedCase.Refused r) = refused r.number r.line
 
 -- where the text is accepted, its two lists agree on every pattern
 abbrev pub Agreeing : List ℕ → Checked → Type 0
 Agreeing text (Accepted steps clauses) = AgreeingLists text
-Agreeing text (checked-case.Refused r) = Unit {0}
+Agreeing text (CheckedCase.Refused r) = Unit {0}

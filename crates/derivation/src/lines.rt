@@ -3,7 +3,7 @@ ghost use Rattle.std.specs.Prelude.{◌≡◌, length};
 ghost use Rattle.frame.specs.Frames.{resolve};
 ghost use Rattle.emit_laws.specs.Fields as model;
 ghost use Rattle.emit_laws.specs.Replay as replay;
-ghost use Rattle.emit_laws.specs.Trees.Tree.{old, cut as cutTree};
+ghost use Rattle.emit_laws.specs.Trees.Tree.{old, cut as cut_tree};
 ghost use Rattle.derivation.specs.Emission.{Room, Few, Emits};
 
 use frame::kinds::RESOLVE_BYTES;
@@ -60,7 +60,7 @@ fn resolution(a: u16, b: u16, pivot: Literal) -> Resolve
 pub fn resolve_on(proof: &mut [u8], at: Derived, a: u16, b: u16, pivot: Literal) -> Derived
     requires { Room (length proof.old) at 1 }
     ensures few { Few at 1 result }
-    ensures emits { Emits proof.old at proof.new result (cutTree (old a) (old b) pivot.code) }
+    ensures emits { Emits proof.old at proof.new result (cut_tree (old a) (old b) pivot.code) }
 {
     let step = resolution(a, b, pivot);
     write_resolve(

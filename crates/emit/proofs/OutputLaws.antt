@@ -23,7 +23,7 @@ use Rattle.emit_laws.specs.Trees.{Tree, size, lay}
 use Rattle.emit_laws.specs.Trees.Tree.{old, cut}
 use Rattle.emit_laws.specs.Subst.{subst2}
 use Rattle.emit_laws.specs.Outputs.{out_tree, chain, outs_tree}
-use Rattle.emit_laws.specs.Place.{first_zClause}
+use Rattle.emit_laws.specs.Place.{first_z_clause}
 use Rattle.emit_laws.specs.Gates.{link_of}
 use Rattle.emit_laws.specs.Emit.{last_tree}
 use Rattle.emit_laws.specs.Stepwise.{Then, then_old}
@@ -164,7 +164,7 @@ module _ {text : List ℕ} {p : Pair} (w : PairStands text p) where
 
   -- the outputs' tree, by the numbers that code has at hand
   pub last_tree_lem : (R : ℕ → ℕ) (links : List (List ℕ)) (z t kz kw c : ℕ) → Begin p z t kz kw → c ≡ kz + 4 * p.outputs + 3 * (p.outputs - 1)
-      → kz ≡ first_zClause w.left w.right → outs_tree R (link_of links) t kw z kz c (z_gates w.left w.right) ≡ last_tree R links w.left w.right
+      → kz ≡ first_z_clause w.left w.right → outs_tree R (link_of links) t kw z kz c (z_gates w.left w.right) ≡ last_tree R links w.left w.right
   unfolding last_tree first_z
   last_tree_lem R links z t kz kw c b e f =
       rw (e, b.kw_is, b.w_is, b.z_is, f, ← w.inputs, ← w.left_gates, ← w.right_gates_lem, ← w.outputs)

@@ -22,7 +22,7 @@ use Rattle.fold_laws.specs.Entries.{length_table}
 use Rattle.emit_laws.specs.Replay.{Resolution}
 use Rattle.emit_laws.specs.Trees.{Tree, size, lay, length_lay, sizes, nums, lays, length_lays}
 use Rattle.emit_laws.specs.Gates.{Literals, ClauseNumbers, link_of, normal, normal_numbers, trees, over_normal}
-use Rattle.emit_laws.specs.Place.{clause_count, behind, first_zClause, last_number}
+use Rattle.emit_laws.specs.Place.{clause_count, behind, first_z_clause, last_number}
 use Rattle.emit_laws.specs.Loop.{slots, from, gate_trees, sign, loop}
 use Rattle.emit_laws.specs.Emit.{start_links, gate_lines, last_tree, emit}
 use Rattle.listing.specs.Listing.{no_gate}
@@ -154,11 +154,11 @@ pub record UpTo (p : List ℕ) (s : Progress) (q work : List ℕ) (start : ℕ) 
   pub whole_lines : (gates_done t a b s.clauses).lines
       ≡ lines ++ (loop (rep_of t) links r.clauses r.next (first_gate a + i) (drop i (gates_of a b))).lines
   pub whole_links : (gates_done t a b s.clauses).links ≡ (loop (rep_of t) links r.clauses r.next (first_gate a + i) (drop i (gates_of a b))).links
-  pub next : first_zClause a b ≡ behind r.next (drop i (gates_of a b))
+  pub next : first_z_clause a b ≡ behind r.next (drop i (gates_of a b))
 
 module _ (p : List ℕ) (s : Progress) (start : ℕ) (t : List Entry) (a b : Netlist) where
   pub up_to_none : (work : List ℕ) → Known work start t (start_links a.inputs) → s.next ≡ 2 → UpTo p s p work start s t a b 0
-  unfolding first_zClause
+  unfolding first_z_clause
   up_to_none work k e =
       let z : first_gate a + 0 ≡ first_gate a = omega arith in
       record {

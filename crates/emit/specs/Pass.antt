@@ -9,7 +9,7 @@ use Rattle.fold_laws.specs.Engine.{both_table}
 use Rattle.emit_laws.specs.Replay.{Resolution}
 use Rattle.emit_laws.specs.Trees.{Tree, sizes, nums, lays}
 use Rattle.emit_laws.specs.Gates.{Literals, link_of, normal, normal_numbers, trees}
-use Rattle.emit_laws.specs.Place.{clause_count, first_zClause}
+use Rattle.emit_laws.specs.Place.{clause_count, first_z_clause}
 use Rattle.emit_laws.specs.Loop as model
 use Rattle.emit_laws.specs.Loop.{slots, sign, gate_trees, loop}
 use Rattle.emit_laws.specs.Emit.{start_links, emit}
@@ -72,7 +72,7 @@ pub record AllDone (p : List ℕ) (s : Progress) (q work : List ℕ) (start : �
   pub adds : Adds p s q r (gates_done t a b s.clauses).lines
   pub known : Known work start t (gates_done t a b s.clauses).links
   pub nets : length (gates_done t a b s.clauses).links ≡ first_gate a + length (gates_of a b)
-  pub next : r.next ≡ first_zClause a b
+  pub next : r.next ≡ first_z_clause a b
 
 -- all lines for two lists, from their table
 abbrev pub lines_of : Netlist → Netlist → List Resolution

@@ -5,9 +5,9 @@ ghost use Rattle.model.specs.Nets.{net_of};
 ghost use Rattle.model.specs.Nets.Op.{xor};
 ghost use Rattle.model.specs.Clauses.{positive};
 ghost use Rattle.fold_laws.specs.Table.{Entry, rep_of};
-ghost use Rattle.emit_laws.specs.Trees.Tree.{old, cut as cutTree};
+ghost use Rattle.emit_laws.specs.Trees.Tree.{old, cut as cut_tree};
 ghost use Rattle.emit_laws.specs.Gates.{link_of};
-ghost use Rattle.emit_laws.specs.Place.{first_zClause};
+ghost use Rattle.emit_laws.specs.Place.{first_z_clause};
 ghost use Rattle.emit_laws.specs.Outputs.{out_tree};
 ghost use Rattle.emit_laws.specs.Emit.{last_tree};
 ghost use Rattle.miter.specs.Miters.{PairStands};
@@ -63,7 +63,7 @@ fn next_out(
     ensures few { Few run 7 result }
     ensures emits { (t : List Entry) (links : List (List ℕ)) → Known work.now start t links → net_of x < length links → net_of y < length links
         → Emits proof.old run proof.new result
-        (cutTree (cutTree (old (kw + 2)) (old run.clause) (positive w)) (out_tree (rep_of t) (link_of links) kz (record { op = xor; x = x; y = y })) (positive z)) }
+        (cut_tree (cut_tree (old (kw + 2)) (old run.clause) (positive w)) (out_tree (rep_of t) (link_of links) kz (record { op = xor; x = x; y = y })) (positive z)) }
 {
     let half = resolve_on(proof, run, kw + 2, run.clause, Literal::positive(w));
     let one = out(work, start, proof, half, kz, x, y);
@@ -83,7 +83,7 @@ pub fn outputs(
     requires { PairStands text.now pair × Room (length proof.old) at (lines_per_output * pair.outputs) × (start ≤ length work.now) × (kz ≤ 10000) }
     ensures few { Few at (lines_per_output * pair.outputs) result }
     ensures emits { (w : PairStands text.now pair) (t : List Entry) (links : List (List ℕ)) → Known work.now start t links
-        → length links ≡ 1 + pair.inputs + pair.left + pair.right → kz ≡ first_zClause w.left w.right
+        → length links ≡ 1 + pair.inputs + pair.left + pair.right → kz ≡ first_z_clause w.left w.right
         → Emits proof.old at proof.new result (last_tree (rep_of t) links w.left w.right) }
 {
     let count = pair.outputs as u16;

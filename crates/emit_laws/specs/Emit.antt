@@ -20,7 +20,7 @@ use Rattle.fold_laws.specs.Facts.{Laws, Facts}
 use Rattle.emit_laws.specs.Replay.{extends_self, Has, Resolution, after, Fine, fine_append, after_append, length_after, extends_after, Refutes}
 use Rattle.emit_laws.specs.Trees.{Tree, size, num, lay, length_lay, Derives, Laid, laid}
 use Rattle.emit_laws.specs.Subst.{unless_false, owned, Ready}
-use Rattle.emit_laws.specs.Place.{first_zClause, first_wClause, last_number, Block, miter_count, miter_at}
+use Rattle.emit_laws.specs.Place.{first_z_clause, first_w_clause, last_number, Block, miter_count, miter_at}
 use Rattle.emit_laws.specs.Gates.{link_of, Held, ready}
 use Rattle.emit_laws.specs.Loop.{over_net, Done, loop, placed, Ran, loop_ok}
 use Rattle.emit_laws.specs.Outputs.{outs_tree, size_outs, AllOneRep, outs_ok}
@@ -38,7 +38,7 @@ gate_lines R a b = loop R (start_links a.inputs) (last_number a b) 2 (first_gate
 -- the outputs
 unfoldable pub last_tree : (ℕ → ℕ) → List (List ℕ) → Netlist → Netlist → Tree
 last_tree R links a b =
-    outs_tree R (link_of links) (first_w a b) (first_wClause a b) (first_z a b) (first_zClause a b) (last_number a b) (z_gates a b)
+    outs_tree R (link_of links) (first_w a b) (first_w_clause a b) (first_z a b) (first_z_clause a b) (last_number a b) (z_gates a b)
 
 -- both
 unfoldable pub emit : (ℕ → ℕ) → Netlist → Netlist → List Resolution
@@ -134,7 +134,7 @@ module _ (T : List Entry) (a b : Netlist) (ab : Pair a b) (f : Facts T a.inputs 
       let z = z_at a b ab in
       derives_outs T N f.laws (link_of links) L
       (λ l h. ready T N (first_gate a) L links N f.laws ran.held (omega arith) l (omega arith))
-      (z_gates a b) (first_w a b) (first_wClause a b) (first_z a b) (first_zClause a b) (last_number a b) (length a.outs)
+      (z_gates a b) (first_w a b) (first_w_clause a b) (first_z a b) (first_z_clause a b) (last_number a b) (length a.outs)
       (length_z a b ab) ab.left.some s.z s.w s.final same (omega arith) (omega arith)
 
   abbrev steps : List Resolution
@@ -184,5 +184,5 @@ module _ (T : List Entry) (a b : Netlist) (ab : Pair a b) (f : Facts T a.inputs 
         ran.few,
         length_gates a b ab,
         length_z a b ab,
-        size_outs (rep_of T) (link_of links) (first_w a b) (first_wClause a b) (first_z a b) (first_zClause a b) (last_number a b) (z_gates a b),
+        size_outs (rep_of T) (link_of links) (first_w a b) (first_w_clause a b) (first_z a b) (first_z_clause a b) (last_number a b) (z_gates a b),
       ))

@@ -12,12 +12,12 @@ use Rattle.model.specs.Lists.{Lists, read_lists}
 use Rattle.model.specs.Engine.{line_bound, working, provable, Outcome, Engine}
 use Rattle.fold_laws.specs.Engine.{by_reps, differing_by_reps}
 use Rattle.emit_laws.specs.Text.{proof_text}
-use Rattle.emit_laws.specs.Proof.{proofOf, promised}
+use Rattle.emit_laws.specs.Proof.{proof_of, promised}
 use types.Run.{OneOf, miss}
 use denote.Enum.Declared.{tag_of}
 use Rattle.laws.specs.ListText.{text_of}
 use Rattle.netlist.specs.declared.Pair.{Pair}
-use Rattle.netlist.specs.contracts.Both as both-type
+use Rattle.netlist.specs.contracts.Both as BothType
 use Rattle.netlist.specs.declared.Both.{Both}
 use Rattle.netlist.specs.declared.Both.TheVariants.{Paired, Refused}
 use Rattle.netlist.specs.Replies.{both_refusal, pair_reply, pair_of}
@@ -66,7 +66,7 @@ unfolding provable due
 of_text text bytes numbers = refl
 
 -- where the lists are refused
-pub unread : (text : List ℕ) (bytes numbers : ℕ) (got : Both) → pair_reply got ≡ pair_of (read_lists text) → OneOf (1 ∷ []) (tag_of both-type.the_type got)
+pub unread : (text : List ℕ) (bytes numbers : ℕ) (got : Both) → pair_reply got ≡ pair_of (read_lists text) → OneOf (1 ∷ []) (tag_of BothType.the_type got)
     → provable text bytes numbers ≡ refused (both_refusal got).number (both_refusal got).line
 unread text bytes numbers (Paired p) e k = absurd (miss (1 ∷ []) 0 tt k)
 unread text bytes numbers (Refused r) e k = of_text text bytes numbers ∙ rw (two_none text r.number r.line e)
@@ -90,9 +90,9 @@ module _ (text : List ℕ) (bytes numbers : ℕ) {proof work : List ℕ} (z : wo
       → Engine text bytes numbers (refused number line) proof work
   keeps_refusal number line e b = rw e (refl, b, z)
 
-  pub keeps_proof : (l : Lists) (n : ℕ) → provable text bytes numbers ≡ ok l → Written proof (proofOf l) → length proof ≡ bytes → n ≡ length (proofOf l)
+  pub keeps_proof : (l : Lists) (n : ℕ) → provable text bytes numbers ≡ ok l → Written proof (proof_of l) → length proof ≡ bytes → n ≡ length (proof_of l)
       → Engine text bytes numbers (ok n) proof work
   keeps_proof l n e w m c =
       let q = rw e at (promised text bytes numbers) in
-      let b : proof ≡ filled bytes (proof_text (proofOf l)) = w ∙ ap (λ (k : ℕ). filled k (proof_text (proofOf l))) m in
-      rw (e, c, z) (subst (λ (x : List ℕ). Outcome text bytes numbers (ok l) (ok (length (proofOf l))) x (zeros numbers)) (sym b) q)
+      let b : proof ≡ filled bytes (proof_text (proof_of l)) = w ∙ ap (λ (k : ℕ). filled k (proof_text (proof_of l))) m in
+      rw (e, c, z) (subst (λ (x : List ℕ). Outcome text bytes numbers (ok l) (ok (length (proof_of l))) x (zeros numbers)) (sym b) q)

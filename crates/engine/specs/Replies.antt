@@ -6,7 +6,7 @@ use Rattle.model.specs.Answers.Answer.{ok, refused}
 use Rattle.model.specs.Lists.{Lists}
 use Rattle.model.specs.Forms.{differing}
 use Rattle.model.specs.Engine.{line_bound, working, provable}
-use Rattle.emit_laws.specs.Proof.{proofOf}
+use Rattle.emit_laws.specs.Proof.{proof_of}
 use Rattle.netlist.specs.declared.Pair.{Pair}
 use Rattle.miter.specs.Miters as miters
 use Rattle.derivation.specs.Emission.{Written}
@@ -31,10 +31,10 @@ due bytes numbers l =
 
 -- a proof is due to the lists l, and its lines are written; or the refusal that is due
 abbrev pub FoldedSays : Lists → ℕ → ℕ → List ℕ → Proved → Type 0
-FoldedSays l bytes numbers proof (Lines n) = (due bytes numbers l ≡ ok l) × Written proof (proofOf l) × (n ≡ length (proofOf l))
+FoldedSays l bytes numbers proof (Lines n) = (due bytes numbers l ≡ ok l) × Written proof (proof_of l) × (n ≡ length (proof_of l))
 FoldedSays l bytes numbers proof (Refused r) = due bytes numbers l ≡ refused r.number r.line
 
 -- the same of a text
 abbrev pub AnswerSays : List ℕ → ℕ → ℕ → List ℕ → Proved → Type 0
-AnswerSays text bytes numbers proof (Lines n) = (l : Lists) × (provable text bytes numbers ≡ ok l) × Written proof (proofOf l) × (n ≡ length (proofOf l))
+AnswerSays text bytes numbers proof (Lines n) = (l : Lists) × (provable text bytes numbers ≡ ok l) × Written proof (proof_of l) × (n ≡ length (proof_of l))
 AnswerSays text bytes numbers proof (Refused r) = provable text bytes numbers ≡ refused r.number r.line

@@ -16,10 +16,10 @@ use Rattle.model.specs.Lines as model
 use Rattle.model.specs.Lines.{is_digit, digit_of, line_feed, lines}
 use Rattle.model.specs.Frames.{Frame, widths, is_kind, number, one_byte, decode_as, decode, output_kind}
 use Rattle.laws.specs.Digits.{byte_read}
-use Rattle.laws.specs.Answers.{ok-injective, refused_not_ok, guard_ok}
+use Rattle.laws.specs.Answers.{ok_injective, refused_not_ok, guard_ok}
 use Rattle.digits.specs.Digits.{value_of, values, run, number_at}
 use Rattle.digits.proofs.DigitLaws.{value_back, run_more, run_stop, byte_number}
-use Rattle.frame.specs.contracts.kinds.Kind as kind-type
+use Rattle.frame.specs.contracts.kinds.Kind as KindType
 use Rattle.frame.specs.declared.Op.{Op}
 use Rattle.frame.specs.declared.Op.TheVariants.{And, Xor}
 use Rattle.frame.specs.declared.kinds.Kind.{Kind}
@@ -138,7 +138,7 @@ record Decoded (text : List ℕ) (at line : ℕ) (f : Frame) : Type 0 where
 
 decode_kind : (ds : List ℕ) (line : ℕ) {f : Frame} → decode ds line ≡ ok f → f.kind ≡ number 0 (take one_byte ds)
 unfolding decode decode_as
-decode_kind ds line e = sym (ap (λ (f : Frame). f.kind) (ok-injective (guard_ok _ 3 line _ e).1))
+decode_kind ds line e = sym (ap (λ (f : Frame). f.kind) (ok_injective (guard_ok _ 3 line _ e).1))
 
 module _ (text : List ℕ) (at line : ℕ) {f : Frame} {ls : List model.Line} {next : ℕ} (i : at ≤ length text) (e : found f ls next ≡ first (lines (drop at text)) line) where
   found_decoded : Decoded text at line f
@@ -177,14 +177,14 @@ module _ (text : List ℕ) (at line : ℕ) {f : Frame} {ls : List model.Line} {n
       refused_not_ok (u (run (drop at text)) line refl d.inside d.feed ∙ d.frame)
 
   -- so a gate's line is of no other kind
-  pub only_gate : (op : Op) → f.kind ≡ gate_kind op → (k : Kind) → OneOf (0 ∷ 2 ∷ 3 ∷ 4 ∷ 5 ∷ 6 ∷ []) (tag_of kind-type.the_type k) → KindSays text at k → ⊥
+  pub only_gate : (op : Op) → f.kind ≡ gate_kind op → (k : Kind) → OneOf (0 ∷ 2 ∷ 3 ∷ 4 ∷ 5 ∷ 6 ∷ []) (tag_of KindType.the_type k) → KindSays text at k → ⊥
   only_gate op is k t says = go op is k t says
     where
       low : (op : Op) → f.kind ≡ gate_kind op → {kind : ℕ} → KindAt text at kind → (2 ≤ kind) × (kind ≤ 3)
       low And is k = let e = found_kind k in (omega arith, omega arith)
       low Xor is k = let e = found_kind k in (omega arith, omega arith)
 
-      go : (op : Op) → f.kind ≡ gate_kind op → (k : Kind) → OneOf (0 ∷ 2 ∷ 3 ∷ 4 ∷ 5 ∷ 6 ∷ []) (tag_of kind-type.the_type k) → KindSays text at k → ⊥
+      go : (op : Op) → f.kind ≡ gate_kind op → (k : Kind) → OneOf (0 ∷ 2 ∷ 3 ∷ 4 ∷ 5 ∷ 6 ∷ []) (tag_of KindType.the_type k) → KindSays text at k → ⊥
       go op is Header t s = omega (arith, low op is s)
       go op is (Gate o) t s = miss (0 ∷ 2 ∷ 3 ∷ 4 ∷ 5 ∷ 6 ∷ []) 1 tt t
       go op is Output t s = omega (arith, low op is s)
@@ -195,10 +195,10 @@ module _ (text : List ℕ) (at line : ℕ) {f : Frame} {ls : List model.Line} {n
       go op is Unknown t s = found_framed s
 
   -- nor an output's
-  pub only_output : f.kind ≡ output_kind → (k : Kind) → OneOf (0 ∷ 1 ∷ 3 ∷ 4 ∷ 5 ∷ 6 ∷ []) (tag_of kind-type.the_type k) → KindSays text at k → ⊥
+  pub only_output : f.kind ≡ output_kind → (k : Kind) → OneOf (0 ∷ 1 ∷ 3 ∷ 4 ∷ 5 ∷ 6 ∷ []) (tag_of KindType.the_type k) → KindSays text at k → ⊥
   only_output is k t says = go k t says
     where
-      go : (k : Kind) → OneOf (0 ∷ 1 ∷ 3 ∷ 4 ∷ 5 ∷ 6 ∷ []) (tag_of kind-type.the_type k) → KindSays text at k → ⊥
+      go : (k : Kind) → OneOf (0 ∷ 1 ∷ 3 ∷ 4 ∷ 5 ∷ 6 ∷ []) (tag_of KindType.the_type k) → KindSays text at k → ⊥
       go Header t s = omega (arith, found_kind s)
       go (Gate And) t s = omega (arith, found_kind s)
       go (Gate Xor) t s = omega (arith, found_kind s)

@@ -10,7 +10,7 @@ use Rattle.model.specs.Frames.{Frame, frame_at, end_at, lone_of, lone_line}
 use Rattle.frame.specs.declared.Line as code
 use Rattle.frame.specs.declared.Line.TheVariants.{Read}
 use Rattle.frame.specs.declared.Cursor.{Cursor}
-use Rattle.frame.specs.declared.Frame as code-Frame
+use Rattle.frame.specs.declared.Frame as CodeFrame
 use Rattle.frame.specs.Frames.{First, first, first_in, first_of, frame_of}
 use Rattle.frame.specs.Frames.First.{none, found, fault}
 
@@ -50,6 +50,6 @@ unfolding lone_line
 lone text r e = ap lone_by e ∙ sym (lone_by_lem (lines text))
 
 -- where a frame stands there, by what the reader finds behind it
-pub lone_behind : (text : List ℕ) (r second : code.Line) (f : code-Frame.Frame) (next : Cursor) → first_of text r ≡ first (lines text) 1 → r ≡ Read f next
+pub lone_behind : (text : List ℕ) (r second : code.Line) (f : CodeFrame.Frame) (next : Cursor) → first_of text r ≡ first (lines text) 1 → r ≡ Read f next
     → first_of text second ≡ first (lines (drop next.at text)) next.line → end_by (first_of text second) next.line (frame_of f) ≡ lone_line text
 lone_behind text r second f next e is e' = ap (λ (x : First). end_by x next.line (frame_of f)) e' ∙ (rw is at (lone text r e))

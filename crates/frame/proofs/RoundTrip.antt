@@ -13,7 +13,7 @@ use Rattle.model.specs.Limits.{highest_line}
 use Rattle.model.specs.Answers.{filled}
 use Rattle.model.specs.Answers.Answer.{ok}
 use Rattle.model.specs.Frames as model
-use Rattle.laws.specs.Answers.{ok-injective, refused_not_ok, guard_ok}
+use Rattle.laws.specs.Answers.{ok_injective, refused_not_ok, guard_ok}
 use Rattle.laws.specs.Bools.{both}
 use Rattle.laws.specs.RoundTrip.{Proper, buffer_read, buffer_written}
 use Rattle.frame.specs.declared.Op.TheVariants.{And, Xor}
@@ -70,7 +70,7 @@ frame_back_lem (Extend Xor x y) = refl
 frame_back_lem (Report r n s c) = refl
 
 framed : (r : Decoded) (f : Frame) → decoded_of r ≡ ok (frame_of f) → r ≡ Framed f
-framed (Framed g) f e = ap Framed (sym (frame_back_lem g) ∙ ap frame_back (ok-injective e) ∙ frame_back_lem f)
+framed (Framed g) f e = ap Framed (sym (frame_back_lem g) ∙ ap frame_back (ok_injective e) ∙ frame_back_lem f)
 framed (Fault number line) f e = absurd (refused_not_ok e)
 
 -- ---- the calls

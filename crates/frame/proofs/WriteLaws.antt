@@ -18,8 +18,8 @@ use types.Run.{OneOf, miss}
 use denote.Enum.Declared.{tag_of}
 use Rattle.laws.specs.Digits.{length_hex}
 use Rattle.laws.specs.RoundTrip.{line_length}
-use Rattle.frame.specs.contracts.Frame as frame-tag
-use Rattle.frame.specs.declared.Frame as frame-type
+use Rattle.frame.specs.contracts.Frame as FrameTag
+use Rattle.frame.specs.declared.Frame as FrameType
 use Rattle.frame.specs.declared.Frame.TheVariants.{Header, Gate, Output, Resolve, Extend, Report}
 use Rattle.frame.specs.declared.Op.{Op}
 use Rattle.frame.specs.declared.Op.TheVariants.{And, Xor}
@@ -67,7 +67,7 @@ operands_widths true And = refl
 operands_widths true Xor = refl
 
 -- a frame that is no report states no line
-pub no_line : (f : frame-type.Frame) → OneOf (0 ∷ 1 ∷ 2 ∷ 3 ∷ 4 ∷ []) (tag_of frame-tag.the_type f) → stated_line (frame_of f) ≡ 0
+pub no_line : (f : FrameType.Frame) → OneOf (0 ∷ 1 ∷ 2 ∷ 3 ∷ 4 ∷ []) (tag_of FrameTag.the_type f) → stated_line (frame_of f) ≡ 0
 unfolding stated_line
 no_line (Header i g o) k = refl
 no_line (Gate And x y) k = refl

@@ -11,11 +11,11 @@ use Rattle.frame.specs.Kinds.{KindAt, Unframed}
 use Rattle.frame.specs.declared.read.Look.{Look}
 use Rattle.frame.specs.declared.read.Look.TheVariants.{Is, Other}
 use Rattle.frame.specs.declared.read.Operands as operands
-use Rattle.frame.specs.declared.read.Operands.TheVariants as operands-case
+use Rattle.frame.specs.declared.read.Operands.TheVariants as OperandsCase
 use Rattle.frame.specs.declared.read.Output as output
-use Rattle.frame.specs.declared.read.Output.TheVariants as output-case
+use Rattle.frame.specs.declared.read.Output.TheVariants as OutputCase
 use Rattle.frame.specs.declared.read.Resolve as resolve
-use Rattle.frame.specs.declared.read.Resolve.TheVariants as resolve-case
+use Rattle.frame.specs.declared.read.Resolve.TheVariants as ResolveCase
 
 -- LF is the last of so many bytes at a place, or it is not
 pub record Feeds (text : List ℕ) (at bytes : ℕ) (r : Bool) : Type 0 where
@@ -36,16 +36,16 @@ abbrev pub Unfielded : List ℕ → ℕ → List ℕ → Type 0
 Unfielded text at ws = (kind : ℕ) → KindAt text at kind → widths kind ≡ ws → Unframed text at
 
 abbrev pub OperandsSay : List ℕ → ℕ → operands.Operands → Type 0
-OperandsSay text at (operands-case.Are x y) = Fielded text at (two_bytes ∷ two_bytes ∷ []) gate_bytes (x ∷ y ∷ [])
-OperandsSay text at operands-case.None = Unfielded text at (two_bytes ∷ two_bytes ∷ [])
+OperandsSay text at (OperandsCase.Are x y) = Fielded text at (two_bytes ∷ two_bytes ∷ []) gate_bytes (x ∷ y ∷ [])
+OperandsSay text at OperandsCase.None = Unfielded text at (two_bytes ∷ two_bytes ∷ [])
 
 abbrev pub OutputSays : List ℕ → ℕ → output.Output → Type 0
-OutputSays text at (output-case.Is l) = Fielded text at (two_bytes ∷ []) output_bytes (l ∷ [])
-OutputSays text at output-case.None = Unfielded text at (two_bytes ∷ [])
+OutputSays text at (OutputCase.Is l) = Fielded text at (two_bytes ∷ []) output_bytes (l ∷ [])
+OutputSays text at OutputCase.None = Unfielded text at (two_bytes ∷ [])
 
 abbrev pub ResolveSays : List ℕ → ℕ → resolve.Resolve → Type 0
-ResolveSays text at (resolve-case.Of a b v) = Fielded text at (two_bytes ∷ two_bytes ∷ two_bytes ∷ []) proof_line_bytes (a ∷ b ∷ v ∷ [])
-ResolveSays text at resolve-case.None = Unfielded text at (two_bytes ∷ two_bytes ∷ two_bytes ∷ [])
+ResolveSays text at (ResolveCase.Of a b v) = Fielded text at (two_bytes ∷ two_bytes ∷ two_bytes ∷ []) proof_line_bytes (a ∷ b ∷ v ∷ [])
+ResolveSays text at ResolveCase.None = Unfielded text at (two_bytes ∷ two_bytes ∷ two_bytes ∷ [])
 
 -- the line at a place has this frame and ends before the place behind it, whatever its number; or it has none
 abbrev pub Looked : List ℕ → ℕ → Look → Type 0

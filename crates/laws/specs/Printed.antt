@@ -8,7 +8,7 @@ use Rattle.model.specs.Answers.Answer.{ok, refused}
 use Rattle.model.specs.Frames.{Frame, field, widths, lone_line}
 use Rattle.model.specs.Steps.{State}
 use Rattle.model.specs.Checker.{check, capacity, judge, report_of, program_within}
-use Rattle.laws.specs.Answers.{ok-injective, guard_ok}
+use Rattle.laws.specs.Answers.{ok_injective, guard_ok}
 use Rattle.laws.specs.Places.{Placed, Counts, check_placed}
 use Rattle.laws.specs.Places.Placed.{result, place}
 use Rattle.laws.specs.Streams.{limited_placed}
@@ -52,6 +52,6 @@ module _ (bytes clauses : ℕ) (stream : List ℕ) (few : bytes < highest_line) 
       go : (a : Answer State) → verdict ≡ a → Placed (Counts (capacity (clause_width * clauses))) highest_line a → AgreeingLists stream
       go (ok s) same p = judge_sound bytes (clause_width * clauses) stream s same
       go (refused number line) same (place n l some low) =
-          let read : report_of (refused number line) ≡ f = ap report_of (sym same) ∙ ok-injective (sym printed_read ∙ e) in
+          let read : report_of (refused number line) ≡ f = ap report_of (sym same) ∙ ok_injective (sym printed_read ∙ e) in
           let zero : number ≡ 0 = ap (λ (g : Frame). field g 0) read ∙ none in
           absurd (omega (arith, zero, some.0))

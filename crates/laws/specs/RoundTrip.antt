@@ -15,7 +15,7 @@ use Rattle.model.specs.Lines.{Line, line_feed, digit_of, lines}
 use Rattle.model.specs.Lines.Line.{digits, faulty}
 use Rattle.model.specs.Frames.{Frame, header_kind, and_kind, xor_kind, output_kind, resolve_kind, extend_and_kind, extend_xor_kind, report_kind, one_byte, widths, is_kind, number, total, split, decode_as, decode, frame_at, end_at, lone_of, lone_line, hex_fields, line_of, stated_line, write_frame, written_frame}
 use Rattle.laws.specs.Bools.{both, by_cond}
-use Rattle.laws.specs.Answers.{ok-injective, refused_not_ok, guard_ok, bind_ok}
+use Rattle.laws.specs.Answers.{ok_injective, refused_not_ok, guard_ok, bind_ok}
 use Rattle.laws.specs.Lines.{prepend_some}
 use Rattle.laws.specs.Digits.{AllDigits, line_of_bytes, all_spelt, Begins, bytes_of_line, line_end, digits_of, hex_digits, all_append, all_digits_of, length_digits_of, number_digits_of, digits_number}
 
@@ -170,7 +170,7 @@ decode_proper ds line f h e =
     let l : length ds ≡ one_byte + total ws = eqb-true (length ds) (one_byte + total ws) t.1 in
     let k = digits_number one_byte (take one_byte ds) (all_take one_byte ds h) (length-take-le one_byte ds (omega arith)) in
     let r = split_fits ws (drop one_byte ds) (all_drop one_byte ds h) (rw length-drop (omega arith)) in
-    rw (← (ok-injective g.1)) (record { known = t.0; fit = r.0 }, rw (k.1, r.1) (take-append-drop one_byte ds))
+    rw (← (ok_injective g.1)) (record { known = t.0; fit = r.0 }, rw (k.1, r.1) (take-append-drop one_byte ds))
 
 -- ---- writing, then reading
 
@@ -307,7 +307,7 @@ unfolding write_frame
 buffer_read f room n p e =
     let fits : Bool = leb (stated_line f) highest_line && leb (length (line_of f)) room in
     let g = guard_ok fits 16 0 (ok (length (line_of f))) e in
-    rw (e, ← (ok-injective g.1), take-append_seam) (lone_written f p)
+    rw (e, ← (ok_injective g.1), take-append_seam) (lone_written f p)
 
 -- a report's second field has three bytes
 report_line : (vs : List ℕ) → Fits (widths report_kind) vs → get_or vs 1 0 ≤ highest_line

@@ -17,7 +17,7 @@ use Rattle.model.specs.Nets as nets
 use Rattle.model.specs.Nets.{Netlist}
 use Rattle.model.specs.Lists.{gate_of}
 use Rattle.laws.specs.ListText.{Stands, FirstReads, gate_frame, output_frame, header_bytes, gate_bytes, output_bytes, gate_again}
-use Rattle.frame.specs.contracts.kinds.Kind as kind-type
+use Rattle.frame.specs.contracts.kinds.Kind as KindType
 use Rattle.frame.specs.declared.kinds.Kind.{Kind}
 use Rattle.frame.specs.declared.Op.{Op}
 use Rattle.frame.specs.declared.Op.TheVariants.{And, Xor}
@@ -51,11 +51,11 @@ module _ (text : List ℕ) (place : ℕ) {f : model.Frame} (r : FirstReads (drop
     framed_there u = found_framed text place 1 i found_there u
 
     -- its kind is no other
-    pub gate_there : (b : Bool) → f.kind ≡ cond b xor_kind and_kind → (k : Kind) → OneOf (0 ∷ 2 ∷ 3 ∷ 4 ∷ 5 ∷ 6 ∷ []) (tag_of kind-type.the_type k) → KindSays text place k → ⊥
+    pub gate_there : (b : Bool) → f.kind ≡ cond b xor_kind and_kind → (k : Kind) → OneOf (0 ∷ 2 ∷ 3 ∷ 4 ∷ 5 ∷ 6 ∷ []) (tag_of KindType.the_type k) → KindSays text place k → ⊥
     gate_there true e k t says = only_gate text place 1 i found_there Xor e k t says
     gate_there false e k t says = only_gate text place 1 i found_there And e k t says
 
-    pub output_there : f.kind ≡ output_kind → (k : Kind) → OneOf (0 ∷ 1 ∷ 3 ∷ 4 ∷ 5 ∷ 6 ∷ []) (tag_of kind-type.the_type k) → KindSays text place k → ⊥
+    pub output_there : f.kind ≡ output_kind → (k : Kind) → OneOf (0 ∷ 1 ∷ 3 ∷ 4 ∷ 5 ∷ 6 ∷ []) (tag_of KindType.the_type k) → KindSays text place k → ⊥
     output_there e k t says = only_output text place 1 i found_there e k t says
 
   -- the fields that are read there are its own

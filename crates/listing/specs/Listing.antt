@@ -2,13 +2,13 @@
 use Rattle.model.specs.Frames.{xor_kind}
 use Rattle.model.specs.Nets as nets
 use Rattle.model.specs.Lists.{gate_of}
-use Rattle.frame.specs.declared.Frame.TheVariants as frame-case
+use Rattle.frame.specs.declared.Frame.TheVariants as FrameCase
 use Rattle.frame.specs.Frames.{frame_of}
 use Rattle.listing.specs.declared.Gate.{Gate}
 
 -- the gate of the definitions that it is: that of its frame
 abbrev pub gate_meant : Gate → nets.Gate
-gate_meant g = gate_of xor_kind (frame_of (frame-case.Gate g.op g.x g.y))
+gate_meant g = gate_of xor_kind (frame_of (FrameCase.Gate g.op g.x g.y))
 
 -- what stands for a gate that a list does not have
 abbrev pub no_gate : nets.Gate

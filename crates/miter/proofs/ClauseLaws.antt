@@ -8,7 +8,7 @@ use lib.ListN.{length, drop, get_or, drop_of_length-le}
 use lib.Seq.{drop-cons}
 use Rattle.model.specs.Nets.{Gate, Netlist}
 use Rattle.model.specs.Clauses.{and_clauses, xor_clauses}
-use Rattle.model.specs.Miter.{gates_of, clause_count, behind, first_gate_clause, first_zClause}
+use Rattle.model.specs.Miter.{gates_of, clause_count, behind, first_gate_clause, first_z_clause}
 use Rattle.frame.specs.declared.Op.{Op}
 use Rattle.frame.specs.declared.Op.TheVariants.{And, Xor}
 use Rattle.frame.specs.Frames.{op_of}
@@ -25,8 +25,8 @@ pub few_each : (op : Op) → clause_count (op_of op) ≤ 4
 few_each And = omega arith
 few_each Xor = omega arith
 
-pub from_first : (a b : Netlist) → first_zClause a b ≡ behind first_gate_clause (drop 0 (gates_of a b))
-unfolding first_zClause
+pub from_first : (a b : Netlist) → first_z_clause a b ≡ behind first_gate_clause (drop 0 (gates_of a b))
+unfolding first_z_clause
 from_first a b = refl
 
 module _ (gs : List Gate) (k n : ℕ) where

@@ -1,7 +1,7 @@
 // The numbers of the miter's clauses, which count from 1 (document 01, 'The miter's clauses'): where each part begins, the last, and the first
 // behind the miter. Where the z begin depends on the gates' operations; the others follow from that number and from how many outputs there are.
 ghost use Rattle.std.specs.Prelude.{◌≡◌, ◌+◌, ◌-◌, ◌*◌, ◌≤◌};
-ghost use Rattle.model.specs.Miter.{clause_count, first_zClause};
+ghost use Rattle.model.specs.Miter.{clause_count, first_z_clause};
 ghost use Rattle.frame.specs.Frames.{op_of};
 ghost use Rattle.netlist.specs.Within.{Within};
 ghost use Rattle.miter.specs.Miters.{PairStands};
@@ -26,7 +26,7 @@ pub fn behind(k: u16, op: Op) -> u16
 pub fn first_z_clause(text: &[u8], pair: Pair) -> u16
     requires { PairStands text.now pair }
     ensures few { result ≤ 8194 }
-    ensures number { (w : PairStands text.now pair) → result ≡ first_zClause w.left w.right }
+    ensures number { (w : PairStands text.now pair) → result ≡ first_z_clause w.left w.right }
 {
     let gates = pair.left + pair.right;
     let mut next = FIRST_GATE_CLAUSE;

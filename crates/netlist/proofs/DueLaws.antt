@@ -12,7 +12,7 @@ use Rattle.model.specs.Lines.{Line}
 use Rattle.model.specs.Frames.{Frame, field, due_at, xor_kind}
 use Rattle.model.specs.Nets.{Netlist, size, is_below, reads_below}
 use Rattle.model.specs.Lists.{is_header, is_gate, is_output, in_range, gate_of, header_at, gate_at, output_at, add_gate, add_output, empty_list, read_outputs, read_gates, read_list}
-use Rattle.frame.specs.contracts.Line as line-type
+use Rattle.frame.specs.contracts.Line as LineType
 use Rattle.frame.specs.declared.Line as code
 use Rattle.frame.specs.declared.Line.TheVariants.{Read, End, Refused}
 use Rattle.frame.specs.Frames.{first, first_of}
@@ -43,7 +43,7 @@ pub record Due {A : Type 0} (due : ℕ → Bool) (line : ℕ) (R : List Line →
 
 module _ {A : Type 0} {due : ℕ → Bool} {line : ℕ} {R : List Line → Answer A} {K : Frame → List Line → Answer A} (d : Due due line R K) (ls : List Line) where
   -- no frame stands there
-  pub due_missing : (text : List ℕ) (got : code.Line) → first_of text got ≡ first ls line → OneOf (1 ∷ 2 ∷ []) (tag_of line-type.the_type got)
+  pub due_missing : (text : List ℕ) (got : code.Line) → first_of text got ≡ first ls line → OneOf (1 ∷ 2 ∷ []) (tag_of LineType.the_type got)
       → R ls ≡ answer_of (missing_of got line)
   unfolding due_at
   due_missing text (Read f next) e k = absurd (miss (1 ∷ 2 ∷ []) 0 tt k)

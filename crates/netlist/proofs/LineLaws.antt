@@ -13,8 +13,8 @@ use Rattle.model.specs.Answers.Answer.{ok, refused}
 use Rattle.model.specs.Frames.{field, end_at, header_kind, xor_kind}
 use Rattle.model.specs.Nets.{Netlist, size, is_below}
 use Rattle.model.specs.Lists.{is_header, is_gate, is_output, in_range, gate_of, add_gate, add_output, empty_list, read_outputs, read_gates, read_list}
-use Rattle.frame.specs.contracts.Frame as frame-type
-use Rattle.frame.specs.contracts.Line as line-type
+use Rattle.frame.specs.contracts.Frame as FrameType
+use Rattle.frame.specs.contracts.Line as LineType
 use Rattle.frame.specs.declared.Cursor.{Cursor}
 use Rattle.frame.specs.declared.Op.{Op}
 use Rattle.frame.specs.declared.Op.TheVariants.{And, Xor}
@@ -35,7 +35,7 @@ bind_guard false number line o f = refl
 
 -- ---- kinds
 
-pub not_header : (f : Frame) → OneOf (1 ∷ 2 ∷ 3 ∷ 4 ∷ 5 ∷ []) (tag_of frame-type.the_type f) → is_header (frame_of f).kind ≡ false
+pub not_header : (f : Frame) → OneOf (1 ∷ 2 ∷ 3 ∷ 4 ∷ 5 ∷ []) (tag_of FrameType.the_type f) → is_header (frame_of f).kind ≡ false
 not_header (Header i g o) k = absurd (miss (1 ∷ 2 ∷ 3 ∷ 4 ∷ 5 ∷ []) 0 tt k)
 not_header (Gate And x y) k = refl
 not_header (Gate Xor x y) k = refl
@@ -45,7 +45,7 @@ not_header (Extend And x y) k = refl
 not_header (Extend Xor x y) k = refl
 not_header (Report r n s c) k = refl
 
-pub not_gate : (f : Frame) → OneOf (0 ∷ 2 ∷ 3 ∷ 4 ∷ 5 ∷ []) (tag_of frame-type.the_type f) → is_gate (frame_of f).kind ≡ false
+pub not_gate : (f : Frame) → OneOf (0 ∷ 2 ∷ 3 ∷ 4 ∷ 5 ∷ []) (tag_of FrameType.the_type f) → is_gate (frame_of f).kind ≡ false
 not_gate (Header i g o) k = refl
 not_gate (Gate op x y) k = absurd (miss (0 ∷ 2 ∷ 3 ∷ 4 ∷ 5 ∷ []) 1 tt k)
 not_gate (Output l) k = refl
@@ -54,7 +54,7 @@ not_gate (Extend And x y) k = refl
 not_gate (Extend Xor x y) k = refl
 not_gate (Report r n s c) k = refl
 
-pub not_output : (f : Frame) → OneOf (0 ∷ 1 ∷ 3 ∷ 4 ∷ 5 ∷ []) (tag_of frame-type.the_type f) → is_output (frame_of f).kind ≡ false
+pub not_output : (f : Frame) → OneOf (0 ∷ 1 ∷ 3 ∷ 4 ∷ 5 ∷ []) (tag_of FrameType.the_type f) → is_output (frame_of f).kind ≡ false
 not_output (Header i g o) k = refl
 not_output (Gate And x y) k = refl
 not_output (Gate Xor x y) k = refl
@@ -154,11 +154,11 @@ module _ (text : List ℕ) (c : Cursor) (got : Line) (e : first_of text got ≡ 
   end_none is = rw (first_none (from text c) c.line (rw is at e))
 
   -- anything else is refused, and a frame is 3
-  pub end_other : OneOf (0 ∷ 2 ∷ []) (tag_of line-type.the_type got) → end_at (from text c) c.line ≡ answer_of (missing_of got c.line)
+  pub end_other : OneOf (0 ∷ 2 ∷ []) (tag_of LineType.the_type got) → end_at (from text c) c.line ≡ answer_of (missing_of got c.line)
   unfolding end_at
   end_other k = go got e k
     where
-      go : (g : Line) → first_of text g ≡ first (from text c) c.line → OneOf (0 ∷ 2 ∷ []) (tag_of line-type.the_type g) → end_at (from text c) c.line ≡ answer_of (missing_of g c.line)
+      go : (g : Line) → first_of text g ≡ first (from text c) c.line → OneOf (0 ∷ 2 ∷ []) (tag_of LineType.the_type g) → end_at (from text c) c.line ≡ answer_of (missing_of g c.line)
       go (Read f next) e k = let r = first_found (from text c) c.line e in rw (r.cut, r.frame)
       go End e k = absurd (miss (0 ∷ 2 ∷ []) 1 tt k)
       go (Refused number place) e k = let r = first_fault (from text c) c.line e in rw (r.cut, r.refusal)

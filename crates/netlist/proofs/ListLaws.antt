@@ -19,7 +19,7 @@ use Rattle.refusal.specs.declared.Refusal.{Refusal}
 use Rattle.netlist.specs.declared.Counts.{Counts}
 use Rattle.netlist.specs.declared.Pair.{Pair}
 use Rattle.netlist.specs.declared.Behind.{Behind}
-use Rattle.netlist.specs.declared.Part.TheVariants as part-case
+use Rattle.netlist.specs.declared.Part.TheVariants as PartCase
 use Rattle.netlist.specs.declared.Behind.TheVariants.{At, Refused}
 use Rattle.netlist.specs.Says.{from, answer_of, GatesRead, GatesSay, OutputsRead, OutputsSay, HeaderRead, BodyRead, BodySays, PartRead, RightRead, RightSays, refusal}
 use Rattle.netlist.specs.Replies.{counts_of, bytes_of, lines_of, pair_by, pair_of, both_of}
@@ -95,17 +95,17 @@ module _ (text : List ℕ) (c : Cursor) (k : Counts) (body : Cursor) (h : Header
 -- ---- a right list behind a left one with these counts
 
 module _ (text : List ℕ) (left : Counts) (c : Cursor) (k : Counts) (body : Cursor) (h : HeaderRead text c k body) where
-  pub unlike_inputs : (k.inputs ≡ left.inputs → ⊥) → RightSays text left c (part-case.Refused (refusal 6 c.line))
+  pub unlike_inputs : (k.inputs ≡ left.inputs → ⊥) → RightSays text left c (PartCase.Refused (refusal 6 c.line))
   unlike_inputs x n i o = list_unlike text c k body h (like_left n) (rw (i, ne_eqb k.inputs left.inputs x))
 
-  pub unlike_outputs : (k.outputs ≡ left.outputs → ⊥) → RightSays text left c (part-case.Refused (refusal 6 c.line))
+  pub unlike_outputs : (k.outputs ≡ left.outputs → ⊥) → RightSays text left c (PartCase.Refused (refusal 6 c.line))
   unlike_outputs x n i o = list_unlike text c k body h (like_left n) (rw (o, ne_eqb k.outputs left.outputs x, and-false))
 
   module _ (inputs : k.inputs ≡ left.inputs) (outputs : k.outputs ≡ left.outputs) where
     alike : (n : Netlist) → n.inputs ≡ left.inputs → length n.outs ≡ left.outputs → like_left n k.inputs k.outputs ≡ true
     alike n i o = rw (i, o, eq-eqb k.inputs left.inputs inputs, eq-eqb k.outputs left.outputs outputs)
 
-    pub right_refused : (r : Refusal) → BodySays text body k (Refused r) → RightSays text left c (part-case.Refused r)
+    pub right_refused : (r : Refusal) → BodySays text body k (Refused r) → RightSays text left c (PartCase.Refused r)
     right_refused r e n i o = list_refused text c k body h (like_left n) (alike n i o) r e
 
     pub right_read : (next : Cursor) → BodyRead text body k next → RightRead text left c k next
@@ -130,7 +130,7 @@ module _ (text : List ℕ) (k : Counts) (middle : Cursor) (a : PartRead text fir
   second : (like : ℕ → ℕ → Bool) → read_list like a.list.rest a.list.line ≡ read_list like (from text middle) middle.line
   second like = rw (a.listed.rest, a.listed.line)
 
-  pub right_refused_both : (r : Refusal) → RightSays text k middle (part-case.Refused r) → answer_of r ≡ both_of (read_both text)
+  pub right_refused_both : (r : Refusal) → RightSays text k middle (PartCase.Refused r) → answer_of r ≡ both_of (read_both text)
   unfolding read_both
   right_refused_both r e = rw (a.reads, second (like_left a.list.list), e a.list.list a.listed.inputs a.listed.outputs)
 

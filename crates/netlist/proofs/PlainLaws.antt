@@ -17,7 +17,7 @@ use Rattle.frame.specs.declared.Op.{Op}
 use Rattle.frame.specs.declared.Frame.{Frame}
 use Rattle.frame.specs.declared.Frame.TheVariants.{Gate, Output}
 use Rattle.frame.specs.declared.Line.TheVariants.{Read}
-use Rattle.frame.specs.contracts.kinds.Kind as kind-type
+use Rattle.frame.specs.contracts.kinds.Kind as KindType
 use Rattle.frame.specs.declared.kinds.Kind.{Kind}
 use Rattle.frame.specs.Frames.{first as first_line, first_of, frame_of, gate_kind, Inside}
 use Rattle.frame.specs.Kinds.{KindSays, Unframed}
@@ -41,10 +41,10 @@ module _ (text : List ℕ) (at : ℕ) (f : Frame) {n : ℕ} (l : LineAt text at 
 
 module _ (text : List ℕ) (at : ℕ) where
   -- a line of another kind
-  pub not_gate : at ≤ length text → (k : Kind) → OneOf (0 ∷ 2 ∷ 3 ∷ 4 ∷ 5 ∷ 6 ∷ []) (tag_of kind-type.the_type k) → KindSays text at k → (net : ℕ) → NoGate text at net
+  pub not_gate : at ≤ length text → (k : Kind) → OneOf (0 ∷ 2 ∷ 3 ∷ 4 ∷ 5 ∷ 6 ∷ []) (tag_of KindType.the_type k) → KindSays text at k → (net : ℕ) → NoGate text at net
   not_gate i k t says net line next op x y rest e = absurd (only_gate text at line i e op refl k t says)
 
-  pub not_output : at ≤ length text → (k : Kind) → OneOf (0 ∷ 1 ∷ 3 ∷ 4 ∷ 5 ∷ 6 ∷ []) (tag_of kind-type.the_type k) → KindSays text at k → (nets : ℕ) → NoOutput text at nets
+  pub not_output : at ≤ length text → (k : Kind) → OneOf (0 ∷ 1 ∷ 3 ∷ 4 ∷ 5 ∷ 6 ∷ []) (tag_of KindType.the_type k) → KindSays text at k → (nets : ℕ) → NoOutput text at nets
   not_output i k t says nets line next x rest e = absurd (only_output text at line i e refl k t says)
 
   -- one that is refused

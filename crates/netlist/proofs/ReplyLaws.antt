@@ -11,7 +11,7 @@ use Rattle.model.specs.Answers.Answer.{ok, refused}
 use Rattle.model.specs.Nets.{Netlist}
 use Rattle.model.specs.Frames.{end_at}
 use Rattle.model.specs.Lists.{read_one, Lists, ListsRead, read_both, read_lists}
-use Rattle.laws.specs.Answers.{ok-injective, refused_not_ok, bind_ok}
+use Rattle.laws.specs.Answers.{ok_injective, refused_not_ok, bind_ok}
 use Rattle.laws.specs.Pairs as pairs
 use Rattle.laws.specs.Reading.{one_good, both_good}
 use Rattle.laws.specs.ListText.{Stands, one_stands, list_bytes, list_length, both_stands}
@@ -31,7 +31,7 @@ module _ {A B : Type 0} (f : A → B) where
 
   -- else it is made of the answer's result
   made_ok : (a : Answer A) {b : B} → ok b ≡ bind a (λ x. ok (f x)) → (x : A) × (a ≡ ok x) × (f x ≡ b)
-  made_ok (ok x) e = (x, refl, ok-injective (sym e))
+  made_ok (ok x) e = (x, refl, ok_injective (sym e))
   made_ok (refused m l) e = absurd (refused_not_ok (sym e))
 
 -- ---- one list
@@ -126,7 +126,7 @@ unfolding read_lists both_stand
 two_stand text l is =
     let r = bind_ok (read_both text) is in
     let z = bind_ok (end_at r.0.rest r.0.line) r.2 in
-    let same : r.0.lists ≡ l = ok-injective z.2 in
+    let same : r.0.lists ≡ l = ok_injective z.2 in
     subst (λ (m : Lists). TwoLists text (pair m)) same (record { both = both_stand text r.0 r.1; alone = is ∙ ap ok (sym same) })
 
 pub two_lists : (text : List ℕ) (p : Pair) → ok p ≡ pair_of (read_lists text) → TwoLists text p

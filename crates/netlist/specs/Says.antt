@@ -15,9 +15,9 @@ use Rattle.frame.specs.Frames.{Inside}
 use Rattle.refusal.specs.declared.Refusal.{Refusal}
 use Rattle.netlist.specs.declared.Counts.{Counts}
 use Rattle.netlist.specs.declared.Part as part
-use Rattle.netlist.specs.declared.Part.TheVariants as part-case
+use Rattle.netlist.specs.declared.Part.TheVariants as PartCase
 use Rattle.netlist.specs.declared.Behind as behind
-use Rattle.netlist.specs.declared.Behind.TheVariants as behind-case
+use Rattle.netlist.specs.declared.Behind.TheVariants as BehindCase
 
 -- ---- refusals
 
@@ -29,12 +29,12 @@ answer_of r = refused r.number r.line
 
 -- the refusal that an answer holds; where it holds none, nothing is said
 abbrev pub part_refusal : part.Part → Refusal
-part_refusal (part-case.Counted c next) = refusal 0 0
-part_refusal (part-case.Refused r) = r
+part_refusal (PartCase.Counted c next) = refusal 0 0
+part_refusal (PartCase.Refused r) = r
 
 abbrev pub behind_refusal : behind.Behind → Refusal
-behind_refusal (behind-case.At next) = refusal 0 0
-behind_refusal (behind-case.Refused r) = r
+behind_refusal (BehindCase.At next) = refusal 0 0
+behind_refusal (BehindCase.Refused r) = r
 
 -- where no frame stands: the line's own refusal, or 4 where the text has ended
 abbrev pub missing_of : Line → ℕ → Refusal
@@ -59,8 +59,8 @@ pub record HeaderRead (text : List ℕ) (c : Cursor) (k : Counts) (next : Cursor
       ≡ guard (like k.inputs k.outputs) 6 c.line (read_gates k.gates k.outputs (empty_list k.inputs) (from text next) next.line)
 
 abbrev pub HeaderSays : List ℕ → Cursor → part.Part → Type 0
-HeaderSays text c (part-case.Counted k next) = HeaderRead text c k next
-HeaderSays text c (part-case.Refused r) = (like : ℕ → ℕ → Bool) → read_list like (from text c) c.line ≡ answer_of r
+HeaderSays text c (PartCase.Counted k next) = HeaderRead text c k next
+HeaderSays text c (PartCase.Refused r) = (like : ℕ → ℕ → Bool) → read_list like (from text c) c.line ≡ answer_of r
 
 -- The next gate of every list whose next net is this one.
 pub record GateRead (text : List ℕ) (c : Cursor) (net : ℕ) (next : Cursor) : Type 0 where
@@ -101,8 +101,8 @@ pub record GatesRead (text : List ℕ) (c : Cursor) (first count i : ℕ) (next 
       → (n' : Netlist) × MoreGates n i n' × (read_gates count m n (from text c) c.line ≡ read_gates left m n' (from text next) next.line)
 
 abbrev pub GatesSay : List ℕ → Cursor → ℕ → ℕ → behind.Behind → Type 0
-GatesSay text c first count (behind-case.At next) = GatesRead text c first count count next
-GatesSay text c first count (behind-case.Refused r) = (m : ℕ) (n : Netlist) → size n ≡ first → read_gates count m n (from text c) c.line ≡ answer_of r
+GatesSay text c first count (BehindCase.At next) = GatesRead text c first count count next
+GatesSay text c first count (BehindCase.Refused r) = (m : ℕ) (n : Netlist) → size n ≡ first → read_gates count m n (from text c) c.line ≡ answer_of r
 
 pub record OutputsRead (text : List ℕ) (c : Cursor) (nets count i : ℕ) (next : Cursor) : Type 0 where
   pub inside : Inside text next
@@ -110,8 +110,8 @@ pub record OutputsRead (text : List ℕ) (c : Cursor) (nets count i : ℕ) (next
       → (n' : Netlist) × MoreOutputs n i n' × (read_outputs count n (from text c) c.line ≡ read_outputs left n' (from text next) next.line)
 
 abbrev pub OutputsSay : List ℕ → Cursor → ℕ → ℕ → behind.Behind → Type 0
-OutputsSay text c nets count (behind-case.At next) = OutputsRead text c nets count count next
-OutputsSay text c nets count (behind-case.Refused r) = (n : Netlist) → size n ≡ nets → read_outputs count n (from text c) c.line ≡ answer_of r
+OutputsSay text c nets count (BehindCase.At next) = OutputsRead text c nets count count next
+OutputsSay text c nets count (BehindCase.Refused r) = (n : Netlist) → size n ≡ nets → read_outputs count n (from text c) c.line ≡ answer_of r
 
 -- a list of these counts, and the lines from a cursor on behind it
 pub record Listed (k : Counts) (text : List ℕ) (next : Cursor) (r : ListRead) : Type 0 where
@@ -128,12 +128,12 @@ pub record BodyRead (text : List ℕ) (c : Cursor) (k : Counts) (next : Cursor) 
   pub reads : read_gates k.gates k.outputs (empty_list k.inputs) (from text c) c.line ≡ ok list
 
 abbrev pub BodySays : List ℕ → Cursor → Counts → behind.Behind → Type 0
-BodySays text c k (behind-case.At next) = BodyRead text c k next
-BodySays text c k (behind-case.Refused r) = read_gates k.gates k.outputs (empty_list k.inputs) (from text c) c.line ≡ answer_of r
+BodySays text c k (BehindCase.At next) = BodyRead text c k next
+BodySays text c k (BehindCase.Refused r) = read_gates k.gates k.outputs (empty_list k.inputs) (from text c) c.line ≡ answer_of r
 
 abbrev pub EndSays : List ℕ → Cursor → behind.Behind → Type 0
-EndSays text c (behind-case.At next) = (next ≡ c) × (end_at (from text c) c.line ≡ ok tt)
-EndSays text c (behind-case.Refused r) = end_at (from text c) c.line ≡ answer_of r
+EndSays text c (BehindCase.At next) = (next ≡ c) × (end_at (from text c) c.line ≡ ok tt)
+EndSays text c (BehindCase.Refused r) = end_at (from text c) c.line ≡ answer_of r
 
 -- ---- lists
 
@@ -144,8 +144,8 @@ pub record PartRead (text : List ℕ) (c : Cursor) (k : Counts) (next : Cursor) 
   pub reads : read_list any_header (from text c) c.line ≡ ok list
 
 abbrev pub PartSays : List ℕ → Cursor → part.Part → Type 0
-PartSays text c (part-case.Counted k next) = PartRead text c k next
-PartSays text c (part-case.Refused r) = read_list any_header (from text c) c.line ≡ answer_of r
+PartSays text c (PartCase.Counted k next) = PartRead text c k next
+PartSays text c (PartCase.Refused r) = read_list any_header (from text c) c.line ≡ answer_of r
 
 -- The right list behind a left one with these counts, whatever the left list is otherwise.
 pub record RightRead (text : List ℕ) (left : Counts) (c : Cursor) (k : Counts) (next : Cursor) : Type 0 where
@@ -154,6 +154,6 @@ pub record RightRead (text : List ℕ) (left : Counts) (c : Cursor) (k : Counts)
   pub reads : (n : Netlist) → n.inputs ≡ left.inputs → length n.outs ≡ left.outputs → read_list (like_left n) (from text c) c.line ≡ ok list
 
 abbrev pub RightSays : List ℕ → Counts → Cursor → part.Part → Type 0
-RightSays text left c (part-case.Counted k next) = RightRead text left c k next
-RightSays text left c (part-case.Refused r) =
+RightSays text left c (PartCase.Counted k next) = RightRead text left c k next
+RightSays text left c (PartCase.Refused r) =
     (n : Netlist) → n.inputs ≡ left.inputs → length n.outs ≡ left.outputs → read_list (like_left n) (from text c) c.line ≡ answer_of r

@@ -9,7 +9,7 @@ use Rattle.model.specs.Answers.{Answer}
 use Rattle.model.specs.Answers.Answer.{ok, refused}
 use Rattle.model.specs.Steps.{State}
 use Rattle.model.specs.Checker.{check, judge, report_of}
-use Rattle.laws.specs.Answers.{ok-injective, refused_not_ok}
+use Rattle.laws.specs.Answers.{ok_injective, refused_not_ok}
 use Rattle.laws.specs.Places.{Placed, Counts}
 use Rattle.laws.specs.Places.Placed.{result, place}
 use Rattle.laws.specs.Streams.{over_limit, within_limit}
@@ -23,7 +23,7 @@ use Rattle.reports.specs.Reports.{Fits}
 -- ---- the report of each case
 
 pub accepted_report : (steps clauses : ℕ) (a : Answer State) → ok (record { steps = steps; clauses = clauses }) ≡ counted_of a → report 0 0 steps clauses ≡ report_of a
-accepted_report steps clauses (ok s) e = ap (λ (c : Counted). report 0 0 c.steps c.clauses) (ok-injective e)
+accepted_report steps clauses (ok s) e = ap (λ (c : Counted). report 0 0 c.steps c.clauses) (ok_injective e)
 accepted_report steps clauses (refused number line) e = absurd (refused_not_ok (sym e))
 
 pub refused_report : (number line : ℕ) (a : Answer State) → refused number line ≡ counted_of a → report number line 0 0 ≡ report_of a
@@ -34,7 +34,7 @@ refused_report number line (refused m l) e = cc
 
 fit : {room most : ℕ} {a : Answer State} → Placed (Counts room) most a → room ≤ most_clauses → most ≤ highest_line → (c : Checked) → checked_of c ≡ counted_of a → Fits c
 fit (result k) r h (Accepted steps clauses) e =
-    let i = ok-injective e in
+    let i = ok_injective e in
     let s = ap (λ (c : Counted). c.steps) i in
     let m = ap (λ (c : Counted). c.clauses) i in
     (omega (arith, s, m, k.steps, k.clauses), omega (arith, m, k.clauses))

@@ -6,7 +6,7 @@ use Rattle.model.specs.Answers.{Answer, bind}
 use Rattle.model.specs.Answers.Answer.{ok}
 use Rattle.model.specs.Nets.{Netlist}
 use Rattle.model.specs.Lists.{read_lists}
-use Rattle.model.specs.Miter.{first_gate, first_right, first_z, first_w, miter_vars, miter, first_gate_clause, first_right_clause, first_zClause, first_wClause, last_number, first_behind}
+use Rattle.model.specs.Miter.{first_gate, first_right, first_z, first_w, miter_vars, miter, first_gate_clause, first_right_clause, first_z_clause, first_w_clause, last_number, first_behind}
 use Rattle.model.specs.Checker.{capacity, check}
 use Rattle.samples.specs.Definitions.{definitions, bytes}
 
@@ -94,7 +94,7 @@ variables_of a b = first_gate a ∷ first_right a ∷ first_z a b ∷ first_w a 
 
 -- the numbers of the first clause of each, of the last clause, and the first behind
 abbrev numbers_of : Netlist → Netlist → List ℕ
-numbers_of a b = first_gate_clause ∷ first_right_clause a ∷ first_zClause a b ∷ first_wClause a b ∷ last_number a b ∷ first_behind a b ∷ []
+numbers_of a b = first_gate_clause ∷ first_right_clause a ∷ first_z_clause a b ∷ first_w_clause a b ∷ last_number a b ∷ first_behind a b ∷ []
 
 -- the lists of 'Bench samples': a AND a, and a. No right gate, and no w
 abbrev paper : String

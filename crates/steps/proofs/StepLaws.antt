@@ -18,7 +18,7 @@ use Rattle.model.specs.Steps.Step.{resolve}
 use Rattle.model.specs.Checker.{stored}
 use Rattle.laws.specs.Bools.{both}
 use Rattle.clause.specs.declared.resolution.Resolved.{Resolved}
-use Rattle.laws.specs.Answers.{ok-injective, guard_ok}
+use Rattle.laws.specs.Answers.{ok_injective, guard_ok}
 use Rattle.clause.specs.declared.resolution.Outcome.{Outcome}
 use Rattle.clause.specs.declared.resolution.Outcome.TheVariants.{Joined, Missing, TooLong}
 use Rattle.clause.specs.Sets.{Rising, Proper, literals_of, fitted, resolve_of, outcome_of, Answers}
@@ -157,7 +157,7 @@ resolvent_rising v first second r hf hs h e =
     let m = ap (λ (o : Outcome). outcome_of o (literals_of r.clause) 0) e in
     let g10 = guard_ok _ _ _ _ (sym (h.same 0) ∙ m) in
     let g11 = guard_ok _ _ _ _ g10.1 in
-    subst Rising (ok-injective g11.1) (rising_resolvent v first second hf hs)
+    subst Rising (ok_injective g11.1) (rising_resolvent v first second hf hs)
 
 module _ (room line : ℕ) (s : State) (a b v : ℕ) where
   pub first_missing : is_clause s.clauses a ≡ false → step room line s (resolve a b v) ≡ refused 9 line
