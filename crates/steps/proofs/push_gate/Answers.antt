@@ -11,10 +11,6 @@ use Rattle.clause.proofs.PlaceLaws.{holds_own}
 use Rattle.steps.proofs.HeldLaws.{proper_at, gate_proper, gate_saved}
 use Rattle.steps.proofs.push_gate.Goals as goal
 
--- LOST same-length
--- same_length : tie.Need-same-length invariant-loop decreases-loop
--- same_length c = c.before.loop.invariant.1
-
 pub loop-j-init : goal.loop-j-init
 loop-j-init c = (omega arith, refl, λ cs h n. subst (Held c.args.store.now) (sym (append-nil cs)) h)
 

@@ -11,10 +11,6 @@ use Rattle.values.specs.Values.{IsBit, HoldsValues}
 use Rattle.values.proofs.ValueLaws.{gate_stored}
 use Rattle.values.proofs.run_gates.Goals as goal
 
--- LOST same-length
--- same_length : tie.Need-same-length invariant-loop decreases-loop
--- same_length c = c.before.loop.invariant.1
-
 pub loop-k-init : goal.loop-k-init
 loop-k-init c = (
   omega arith,

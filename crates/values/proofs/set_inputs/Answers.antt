@@ -5,10 +5,6 @@ use lib.ListN.{length-set}
 use Rattle.values.proofs.BitLaws.{stored_none, stored_more}
 use Rattle.values.proofs.set_inputs.Goals as goal
 
--- LOST same-length
--- same_length : tie.Need-same-length invariant-loop decreases-loop
--- same_length c = c.before.loop.invariant.1 ∙ simp length-set
-
 pub loop-k-init : goal.loop-k-init
 loop-k-init c = (omega arith, refl, simp length-set (omega arith), stored_none c.args.values.now (omega arith))
 

@@ -10,20 +10,6 @@ use Rattle.checker.proofs.ReplayLaws.{replay_ended, ran_none, ran_joined, ran_re
 use borrow.Enum.Refused.{opened}
 use Rattle.checker.proofs.replay.replay.Goals as goal
 
--- LOST same-length
--- same_length : tie.Need-same-length invariant-loop decreases-loop
--- same_length c = row-long c.before.before.before.before.before
-
--- LOST same-length-2
--- same-length-2 : tie.Need-same-length-2 invariant-loop decreases-loop
--- same-length-2 c = row-long c.before.before.before.before.before.before.before.before
-
--- LOST same-length-3
--- same-length-3 : tie.Need-same-length-3 invariant-loop decreases-loop
--- same-length-3 c =
---     let stepped = c.before.before.before.before in
---     step-long stepped ∙ row-long (row_of (ran-of stepped.before.before.before))
-
 pub loop-d-init : goal.loop-d-init
 loop-d-init c = ran_none c.requires.0 c.requires.1
 

@@ -9,22 +9,6 @@ use Rattle.frame.specs.Fields.{LineAt}
 use Rattle.checker.proofs.ReplayLaws.{ran_none, ran_joined, ran_refused, resolve_line, behind_resolve, ran_resolve, resolve_refused}
 use Rattle.checker.proofs.replay.run_resolves.Goals as goal
 
--- LOST same-length
--- same_length : tie.Need-same-length invariant-loop decreases-loop
--- same_length c = c.before.before.loop.invariant.0.long
-
--- LOST same-length-2
--- same-length-2 : tie.Need-same-length-2 invariant-loop decreases-loop
--- same-length-2 c = c.before.before.before.before.before.before.loop.invariant.0.long
-
--- LOST same-length-3
--- same-length-3 : tie.Need-same-length-3 invariant-loop decreases-loop
--- same-length-3 c =
---     let stepped = c.before.before.before.before.before in
---     let l = (head_of stepped).loop in
---     let e : length stepped.resolve-step.new.0 ≡ length l.store = search rules in
---     e ∙ l.inv.0.long
-
 pub loop-resolve-init : goal.loop-resolve-init
 loop-resolve-init c = (ran_none c.requires.0 c.requires.1, omega arith)
 

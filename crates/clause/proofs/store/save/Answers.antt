@@ -10,10 +10,6 @@ use Rattle.clause.specs.Sets.{literals_of}
 use Rattle.clause.proofs.StoreLaws.{stored_length, store_next}
 use Rattle.clause.proofs.store.save.Goals as goal
 
--- LOST same-length
--- same_length : tie.Need-same-length invariant-loop decreases-loop
--- same_length c = c.before.loop.invariant.1
-
 pub loop-i-init : goal.loop-i-init
 loop-i-init c =
     let a = c.args in

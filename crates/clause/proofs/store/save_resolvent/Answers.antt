@@ -12,10 +12,6 @@ use Rattle.clause.proofs.StoreLaws.{stored_length, store_next, number_at}
 use Rattle.clause.proofs.PlaceLaws.{filled_at}
 use Rattle.clause.proofs.store.save_resolvent.Goals as goal
 
--- LOST same-length
--- same_length : tie.Need-same-length invariant-loop decreases-loop
--- same_length c = c.before.loop.invariant.1
-
 pub loop-i-init : goal.loop-i-init
 loop-i-init c =
     let h = c.requires.1 in

@@ -4,13 +4,6 @@ use native.Mathlib.Omega.{arith}
 use Rattle.derivation.proofs.EmitLaws.{few_then, room_then, emits_cut, emits_cut_right}
 use Rattle.derivation.proofs.ands.and_down.Goals as goal
 
--- LOST same-length
--- same_length : tie.Need-same-length
--- same_length c =
---     let half = c.before.before.before.before.before.before.before in
---     let first = half.before.before.before.before.before.before in
---     c.before.proof4.given ∙ c.before.before.before.before.before.before.proof3.given ∙ half.before.before.before.before.before.proof2.given ∙ first.before.before.before.proof.given
-
 pub resolve_on-requires : goal.resolve_on-requires
 resolve_on-requires c =
     room_then c.requires.0 (few_then (few_then c.subst2-second.ensures.few c.subst2-first.ensures.few) c.resolve_on-half.ensures.few)

@@ -4,14 +4,6 @@ use native.Mathlib.Omega.{arith}
 use Rattle.derivation.proofs.EmitLaws.{few_then, room_then, emits_cut, emits_cut_left, emits_cut_right}
 use Rattle.derivation.proofs.xors.xor_up.Goals as goal
 
--- LOST same-length
--- same_length : tie.Need-same-length
--- same_length c =
---     let right = c.before.before.before.before.before.before.before in
---     let third = right.before.before.before.before.before in
---     let left = third.before.before.before.before in
---     c.before.proof5.given ∙ c.before.before.before.before.before.before.proof4.given ∙ right.before.before.before.before.proof3.given ∙ third.before.before.before.proof2.given ∙ left.before.before.before.before.proof.given
-
 pub subst2-third-requires : goal.subst2-third-requires
 subst2-third-requires c = (
   room_then c.requires.0 (few_then c.subst2-second.ensures.few c.resolve_on-left.ensures.few) (c.proof-2-1.given ∙ c.proof-1.given) (omega arith),

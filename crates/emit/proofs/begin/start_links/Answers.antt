@@ -10,13 +10,6 @@ use Rattle.emit.proofs.BeginLaws.{keeps_none, start_more}
 use borrow.Author.Rules.{rules}
 use Rattle.emit.proofs.begin.start_links.Goals as goal
 
--- LOST same-length
--- same_length : tie.Need-same-length invariant-loop decreases-loop
--- same_length c =
---     let a = c.before.before.before.before.before.before.before.args in
---     let e = c.before.before.before.before.keep in
---     c.before.loop.invariant.1 ∙ (let s : length e.new.0 ≡ length a.work.now = search rules in s)
-
 pub loop-k-init : goal.loop-k-init
 loop-k-init c =
     let a = c.args in (

@@ -13,13 +13,6 @@ use Rattle.miter.proofs.MiterLaws.{within}
 use Rattle.emit.proofs.OutputLaws.{up_to_first, up_to_next, up_to_all, z_below, last_tree_lem}
 use Rattle.emit.proofs.outputs.outputs.Goals as goal
 
--- LOST same-length
--- same_length : tie.Need-same-length invariant-loop decreases-loop
--- same_length c =
---     let looped = c.before.before.before.before.before.before.before in
---     let end : length c.before.before.resolve-on.new.0 ≡ length looped.loop.proof = search rules in
---     end ∙ long looped
-
 pub loop-i-init : goal.loop-i-init
 loop-i-init c =
     let small = within c.requires.0 in (

@@ -9,14 +9,6 @@ use Rattle.emit.proofs.PassLaws.{up_to_none, up_to_next, reads_done, up_to_all}
 use borrow.Author.Rules.{rules}
 use Rattle.emit.proofs.pass.gates.Goals as goal
 
--- LOST same-length
--- same_length : tie.Need-same-length invariant-loop decreases-loop
--- same_length c = c.before.loop.invariant.1
-
--- LOST same-length-2
--- same-length-2 : tie.Need-same-length-2 invariant-loop decreases-loop
--- same-length-2 c = c.before.loop.invariant.2
-
 pub loop-i-init : goal.loop-i-init
 loop-i-init c =
     let a = c.args in (

@@ -14,12 +14,6 @@ use Rattle.fold.proofs.PassLaws.{after_none, after_all, gate_entered}
 use borrow.Author.Rules.{rules}
 use Rattle.fold.proofs.pass.fold.Goals as goal
 
--- LOST same-length
--- same_length : tie.Need-same-length invariant-loop decreases-loop
--- same_length c =
---     let bases = c.before.before.before.before in
---     c.before.loop.invariant.1 ∙ (let s : length bases.set-bases.new.0 ≡ length bases.before.before.before.before.before.before.before.args.work.now = search rules in s)
-
 pub first_gate-first-requires : goal.first_gate-first-requires
 first_gate-first-requires c = within c.requires.0
 

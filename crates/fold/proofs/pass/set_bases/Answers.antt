@@ -11,12 +11,6 @@ use Rattle.fold.proofs.PassLaws.{bases_none, bases_more}
 use borrow.Author.Rules.{rules}
 use Rattle.fold.proofs.pass.set_bases.Goals as goal
 
--- LOST same-length
--- same_length : tie.Need-same-length invariant-loop decreases-loop
--- same_length c =
---     let b = c.before.before.before.before.empty in
---     c.before.loop.invariant.1 ∙ (let s : length b.new.0 ≡ length c.before.before.before.before.before.before.before.args.work.now = search rules in s)
-
 pub loop-k-init : goal.loop-k-init
 loop-k-init c = (omega arith, refl, rw bases_none c.empty.ensures)
 

@@ -7,10 +7,6 @@ use Rattle.model.specs.Frames.{hex}
 use Rattle.frame.proofs.WriteLaws.{store_digit}
 use Rattle.frame.proofs.fields.put_hex.Goals as goal
 
--- LOST same-length
--- same_length : tie.Need-same-length invariant-loop decreases-loop
--- same_length c = c.before.loop.invariant.2
-
 pub loop-left-preserved : goal.loop-left-preserved
 loop-left-preserved c =
     let a = c.args in

@@ -8,12 +8,6 @@ use Rattle.model.specs.Frames.{hex, one_byte}
 use Rattle.frame.proofs.WriteLaws.{field_room, field_stored, fields_stored, width_count, value_count, line_long, line_stored}
 use Rattle.frame.proofs.fields.write_line.Goals as goal
 
--- LOST same-length
--- same_length : tie.Need-same-length invariant-loop decreases-loop
--- same_length c =
---     let l = c.before.loop in
---     simp length-set (l.invariant.5.long ∙ ap length c.before.before.before.before.put-hex.ensures.1 ∙ simp length-sets)
-
 pub put_hex-p-requires : goal.put_hex-p-requires
 put_hex-p-requires c =
     let w = c.fields_of-w in

@@ -9,14 +9,6 @@ use Rattle.steps.proofs.StepLaws.{few}
 use Rattle.miter.proofs.BeginLaws.{none_yet, variable_held, variable_short}
 use Rattle.miter.proofs.begin.write_variables.Goals as goal
 
--- LOST same-length
--- same_length : tie.Need-same-length invariant-loop decreases-loop
--- same_length c = c.before.before.before.before.loop.invariant.4
-
--- LOST same-length-2
--- same-length-2 : tie.Need-same-length-2 invariant-loop decreases-loop
--- same-length-2 c = c.before.loop.invariant.4
-
 pub loop-v-init : goal.loop-v-init
 loop-v-init c =
     let r = c.requires in (

@@ -5,10 +5,6 @@ use Rattle.table.specs.Rows.{entry_of}
 use Rattle.table.proofs.BucketLaws.{inserted}
 use Rattle.table.proofs.buckets.insert.Goals as goal
 
--- LOST same-length
--- same_length : tie.Need-same-length
--- same_length c = rw c.before.before.enter.ensures (simp (length-sets, length-set))
-
 pub bounds-work-v : goal.bounds-work-v
 bounds-work-v c = simp length-set (omega (arith, c.requires.room, c.requires.inside))
 
