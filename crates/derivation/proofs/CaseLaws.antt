@@ -13,7 +13,7 @@ use Rattle.fold_laws.specs.Cases.{AndCase, and_case, XorCase, xor_case}
 use Rattle.fold_laws.specs.Cases.AndCase.{nil, pass, opp, pair}
 use Rattle.fold_laws.specs.Cases.XorCase.{pass, same, pair}
 use Rattle.fold_laws.specs.Table.{Entry, rep_of}
-use Rattle.fold_laws.specs.Facts.{stands_below}
+use Rattle.fold_laws.proofs.Facts.{stands_below}
 use Rattle.emit_laws.specs.Trees.{Tree}
 use Rattle.emit_laws.specs.Gates.{link_of, trees}
 use Rattle.table.specs.Rows.{HoldsTable}

@@ -5,7 +5,7 @@ use mathlib.Core.Bool.{Bool, true, false, ◌&&◌}
 use native.Mathlib.Omega.{arith}
 use borrow.Author.Tests.{le-leb, lt-leb}
 use Rattle.model.specs.Nets.{net_of, odd}
-use Rattle.fold_laws.specs.Signs.{signed_net, signed_back}
+use Rattle.fold_laws.proofs.Signs.{signed_net, signed_back}
 use Rattle.emit_laws.specs.Gates.{Literals, ClauseNumbers, order, order_numbers, turn, turn_numbers, unsigned, normal, normal_numbers}
 
 -- both operands, one after the other

@@ -16,9 +16,10 @@ use Rattle.laws.specs.Pairs.{is_xor}
 use Rattle.laws.specs.ListText.{ordered_at}
 use Rattle.laws.specs.MiterOrder.{ordered_gates}
 use Rattle.fold_laws.specs.Table.{Entry, rep_of}
-use Rattle.fold_laws.specs.Facts.{Laws, table_facts}
+use Rattle.fold_laws.specs.Facts.{Laws}
+use Rattle.fold_laws.proofs.Facts.{table_facts}
 use Rattle.fold_laws.specs.Engine.{both_table}
-use Rattle.fold_laws.specs.Entries.{length_table}
+use Rattle.fold_laws.proofs.Entries.{length_table}
 use Rattle.emit_laws.specs.Replay.{Resolution}
 use Rattle.emit_laws.specs.Trees.{Tree, size, lay, length_lay, sizes, nums, lays, length_lays}
 use Rattle.emit_laws.specs.Gates.{Literals, ClauseNumbers, link_of, normal, normal_numbers, trees, over_normal}

@@ -11,12 +11,13 @@ use Rattle.model.specs.Limits.{lines_per_gate}
 use Rattle.model.specs.Nets.{net_of}
 use Rattle.model.specs.Clauses.{Clause, neg}
 use Rattle.laws.specs.Bools.{by_cond}
-use Rattle.fold_laws.specs.Signs.{signed_back}
+use Rattle.fold_laws.proofs.Signs.{signed_back}
 use Rattle.fold_laws.specs.Cases.{AndCase, AndIs, and_made, XorCase, XorIs, xor_made}
 use Rattle.fold_laws.specs.Cases.AndCase.{nil, pass, opp, pair}
 use Rattle.fold_laws.specs.Cases.XorCase.{pass, same, pair}
 use Rattle.fold_laws.specs.Table.{Entry, rep_of}
-use Rattle.fold_laws.specs.Facts.{Laws, Keyed, Stands, stands_below}
+use Rattle.fold_laws.specs.Facts.{Laws, Keyed, Stands}
+use Rattle.fold_laws.proofs.Facts.{stands_below}
 use Rattle.emit_laws.specs.Sets.{Same, flat, sets}
 use Rattle.emit_laws.specs.Trees.{Tree, size, sizes, Derives, derives_same, Claim, Gives, Met, All₂}
 use Rattle.emit_laws.specs.Trees.Tree.{old, cut}

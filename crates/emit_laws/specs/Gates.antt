@@ -7,10 +7,12 @@ use Rattle.std.proofs.Common.{◌∙◌, arith, leb-true, leb-false}
 use Rattle.std.proofs.Math.Bool.{Bool, true, false}
 use Rattle.model.specs.Nets.{net_of, odd, xorb}
 use Rattle.model.specs.Clauses.{Clause, positive, neg}
-use Rattle.fold_laws.specs.Signs.{signed, signed_net, signed_back}
-use Rattle.fold_laws.specs.Cases.{and_case, and_is, xor_case, xor_is, made}
+use Rattle.fold_laws.specs.Signs.{signed}
+use Rattle.fold_laws.proofs.Signs.{signed_net, signed_back}
+use Rattle.fold_laws.specs.Cases.{and_case, xor_case, made}
+use Rattle.fold_laws.proofs.Cases.{and_is, xor_is}
 use Rattle.fold_laws.specs.Table.{Entry, at, rep_of, kind_of, ordered, part}
-use Rattle.fold_laws.specs.Entries.{rep_signed, plain_part}
+use Rattle.fold_laws.proofs.Entries.{rep_signed, plain_part}
 use Rattle.fold_laws.specs.Facts.{Laws, Keyed, Stands, GateFact}
 use Rattle.emit_laws.specs.Sets.{Same, flat, sets}
 use Rattle.emit_laws.specs.Replay.{Has}

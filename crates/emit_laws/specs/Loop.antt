@@ -17,10 +17,11 @@ use Rattle.laws.specs.Bools.{below_or_at}
 use Rattle.laws.specs.Growing.{Extends}
 use Rattle.laws.specs.Literals.{literals_below}
 use Rattle.laws.specs.Pairs.{Ordered, is_xor, Plain}
-use Rattle.fold_laws.specs.Signs.{signed, same_net}
+use Rattle.fold_laws.specs.Signs.{signed}
+use Rattle.fold_laws.proofs.Signs.{same_net}
 use Rattle.fold_laws.specs.Cases.{and_case, xor_case}
 use Rattle.fold_laws.specs.Table.{Entry, at, rep_of, kind_of}
-use Rattle.fold_laws.specs.Entries.{kind_inj}
+use Rattle.fold_laws.proofs.Entries.{kind_inj}
 use Rattle.fold_laws.specs.Facts.{Laws, GateFact, GateFacts}
 use Rattle.emit_laws.specs.Replay.{Has, has_ext, Resolution, after, Fine, fine_append, after_append, length_after, extends_after}
 use Rattle.emit_laws.specs.Trees.{Tree, derives_ext, Claim, Met, All₂, sizes, nums, lays, length_lays, all_met_ext, each}

@@ -16,8 +16,9 @@ use Rattle.laws.specs.MiterOrder.{shift_below, below_right, length_gates, ordere
 use Rattle.laws.specs.Reading.{lists_good}
 use Rattle.laws.specs.Appending.{changed}
 use Rattle.fold_laws.specs.Table.{Entry, rep_of}
-use Rattle.fold_laws.specs.Facts.{table_facts}
-use Rattle.fold_laws.specs.Engine.{both_table, reps_apart, by_reps, differing_by_reps}
+use Rattle.fold_laws.proofs.Facts.{table_facts}
+use Rattle.fold_laws.specs.Engine.{both_table, reps_apart, by_reps}
+use Rattle.fold_laws.proofs.Engine.{differing_by_reps}
 use Rattle.emit_laws.specs.Replay.{Resolution}
 use Rattle.emit_laws.specs.Outputs.{AllOneRep}
 use Rattle.emit_laws.specs.Emit.{emit, net_count, refutes, few}

@@ -10,7 +10,8 @@ use Rattle.model.specs.Answers.{guard, bind, zeros, filled}
 use Rattle.model.specs.Answers.Answer.{ok, refused}
 use Rattle.model.specs.Lists.{Lists, read_lists}
 use Rattle.model.specs.Engine.{line_bound, working, provable, Outcome, Engine}
-use Rattle.fold_laws.specs.Engine.{by_reps, differing_by_reps}
+use Rattle.fold_laws.specs.Engine.{by_reps}
+use Rattle.fold_laws.proofs.Engine.{differing_by_reps}
 use Rattle.emit_laws.specs.Text.{proof_text}
 use Rattle.emit_laws.specs.Proof.{proof_of, promised}
 use types.Run.{OneOf, miss}

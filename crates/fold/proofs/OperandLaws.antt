@@ -7,7 +7,7 @@ use lib.Dec.{eqb, leb}
 use borrow.Author.Tests.{eq-eqb, ne_eqb}
 use Rattle.model.specs.Nets.{net_of, odd, xorb, bit}
 use Rattle.model.specs.Clauses.{positive, neg}
-use Rattle.fold_laws.specs.Signs.{bit_odd}
+use Rattle.fold_laws.proofs.Signs.{bit_odd}
 use Rattle.fold_laws.specs.Cases.{and_case, xor_case, made}
 use Rattle.fold_laws.specs.Cases.Made.{is, key}
 use Rattle.fold_laws.specs.Table.{ordered, part, sign_of}

@@ -6,6 +6,5 @@ pub mod Table
 pub mod Entries
 pub mod Facts
 pub mod Invariant
-pub mod Step
 pub mod Folded
 pub mod Engine

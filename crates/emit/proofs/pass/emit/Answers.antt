@@ -5,7 +5,7 @@ use mathlib.Core.Path.{◌≡◌, refl, sym, ◌∙◌, subst}
 use lib.ListN.{length}
 use Rattle.model.specs.Miter.{gates_of, first_gate_clause}
 use Rattle.laws.specs.MiterOrder.{length_gates}
-use Rattle.fold_laws.specs.Entries.{length_table}
+use Rattle.fold_laws.proofs.Entries.{length_table}
 use Rattle.fold_laws.specs.Engine.{both_table}
 use Rattle.emit_laws.specs.Emit.{start_links}
 use Rattle.table.specs.Links.{Keeps}

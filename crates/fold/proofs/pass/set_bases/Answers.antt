@@ -5,7 +5,7 @@ use mathlib.Core.Path.{◌≡◌, refl, sym, ◌∙◌, subst}
 use native.Mathlib.Omega.{arith}
 use lib.ListN.{length}
 use Rattle.fold_laws.specs.Table as model
-use Rattle.fold_laws.specs.Entries.{length_bases}
+use Rattle.fold_laws.proofs.Entries.{length_bases}
 use Rattle.table.specs.Buckets.{Indexed}
 use Rattle.fold.proofs.PassLaws.{bases_none, bases_more}
 use borrow.Author.Rules.{rules}

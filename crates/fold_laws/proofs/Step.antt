@@ -10,16 +10,21 @@ use Rattle.model.specs.Clauses.{positive, neg}
 use Rattle.model.specs.Forms.{Form, form, flip, false_core, never, always, fold_and, fold_xor, xor_cores, literal_form}
 use Rattle.laws.specs.Bools.{by_cond, either, xorb_self, below_or_at}
 use Rattle.laws.specs.Literals.{positive_even}
-use Rattle.fold_laws.specs.Signs.{signed, signed_net}
-use Rattle.fold_laws.specs.Same.{◌~◌, ~sym, ~trans, ~path, ~flip, fold, new_form, same_by, fold~, fold_swap, xor_flip}
-use Rattle.fold_laws.specs.Cases.{Made, AndCase, AndIs, and_case, and_is, and_made, XorCase, XorIs, xor_case, xor_is, xor_made, made, by_made}
+use Rattle.fold_laws.specs.Signs.{signed}
+use Rattle.fold_laws.proofs.Signs.{signed_net}
+use Rattle.fold_laws.specs.Same.{◌~◌, fold, new_form, same_by}
+use Rattle.fold_laws.proofs.Same.{~sym, ~trans, ~path, ~flip, fold~, fold_swap, xor_flip}
+use Rattle.fold_laws.specs.Cases.{Made, AndCase, AndIs, and_case, and_made, XorCase, XorIs, xor_case, xor_made, made}
+use Rattle.fold_laws.proofs.Cases.{and_is, xor_is, by_made}
 use Rattle.fold_laws.specs.Cases.Made.{is, key}
 use Rattle.fold_laws.specs.Cases.AndCase.{nil, pass, opp, pair}
 use Rattle.fold_laws.specs.Cases.XorCase.{pass, same, pair}
 use Rattle.fold_laws.specs.Table.{Entry, at, rep_of, ordered, part, sign_of}
-use Rattle.fold_laws.specs.Entries.{kind_inj, rep_signed, own_over}
-use Rattle.fold_laws.specs.Facts.{Laws, Stands, GateFact, Operand, zero_operand, operand}
-use Rattle.fold_laws.specs.Invariant.{Shape, Inv, form_signed, rep_form, by_rep, merge, fresh}
+use Rattle.fold_laws.proofs.Entries.{kind_inj, rep_signed, own_over}
+use Rattle.fold_laws.specs.Facts.{Laws, Stands, GateFact, Operand}
+use Rattle.fold_laws.proofs.Facts.{zero_operand, operand}
+use Rattle.fold_laws.specs.Invariant.{Shape, Inv}
+use Rattle.fold_laws.proofs.Invariant.{form_signed, rep_form, by_rep, merge, fresh}
 use Rattle.fold_laws.specs.Invariant.Shape.{base, gate}
 
 positive_form : (fs : List Form) (v : ℕ) → literal_form fs (positive v) ≡ get_or fs v never
