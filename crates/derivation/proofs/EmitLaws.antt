@@ -10,7 +10,8 @@ use lib.ListN.{length, length-append}
 use Rattle.model.specs.Answers.{filled}
 use Rattle.table.specs.Links.{link_width}
 use Rattle.emit_laws.specs.Replay.{Resolution}
-use Rattle.emit_laws.specs.Trees.{Tree, size, lay, length_lay, sizes, nums, lays}
+use Rattle.emit_laws.specs.Trees.{Tree, size, lay, sizes, nums, lays}
+use Rattle.emit_laws.proofs.Trees.{length_lay}
 use Rattle.emit_laws.specs.Trees.Tree.{old, cut}
 use Rattle.emit_laws.specs.Stepwise.{Then}
 use Rattle.derivation.specs.declared.lines.Derived.{Derived}

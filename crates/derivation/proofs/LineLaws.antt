@@ -15,7 +15,8 @@ use Rattle.emit_laws.specs.Replay.{Resolution, pivot}
 use Rattle.emit_laws.specs.Fields.{frame_of}
 use Rattle.emit_laws.specs.Trees.{lay}
 use Rattle.emit_laws.specs.Trees.Tree.{old, cut}
-use Rattle.emit_laws.specs.Text.{proof_text, proof_bytes_lem}
+use Rattle.emit_laws.specs.Text.{proof_text}
+use Rattle.emit_laws.proofs.Text.{proof_bytes_lem}
 use Rattle.derivation.specs.declared.lines.Derived.{Derived}
 use Rattle.derivation.specs.Emission.{Written, Room, Emits}
 

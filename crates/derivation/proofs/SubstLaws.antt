@@ -7,7 +7,7 @@ use borrow.Author.Tests.{eq-eqb, ne_eqb}
 use Rattle.emit_laws.specs.Trees.{Tree, num}
 use Rattle.emit_laws.specs.Trees.Tree.{old, cut}
 use Rattle.emit_laws.specs.Subst.{own, subst1, subst2, link2}
-use Rattle.emit_laws.specs.Stepwise.{then_subst1}
+use Rattle.emit_laws.proofs.Stepwise.{then_subst1}
 use Rattle.derivation.specs.declared.lines.Derived.{Derived}
 use Rattle.derivation.specs.Emission.{Emits}
 use Rattle.derivation.proofs.EmitLaws.{emits_then}

@@ -26,7 +26,8 @@ use Rattle.emit_laws.specs.Outputs.{out_tree, chain, outs_tree}
 use Rattle.emit_laws.specs.Place.{first_z_clause}
 use Rattle.emit_laws.specs.Gates.{link_of}
 use Rattle.emit_laws.specs.Emit.{last_tree}
-use Rattle.emit_laws.specs.Stepwise.{Then, then_old}
+use Rattle.emit_laws.specs.Stepwise.{Then}
+use Rattle.emit_laws.proofs.Stepwise.{then_old}
 use Rattle.derivation.specs.declared.lines.Derived.{Derived}
 use Rattle.derivation.specs.Emission.{Emits}
 use Rattle.derivation.proofs.EmitLaws.{emits_then, emits_cut_left}

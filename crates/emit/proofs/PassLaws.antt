@@ -21,8 +21,10 @@ use Rattle.fold_laws.proofs.Facts.{table_facts}
 use Rattle.fold_laws.specs.Engine.{both_table}
 use Rattle.fold_laws.proofs.Entries.{length_table}
 use Rattle.emit_laws.specs.Replay.{Resolution}
-use Rattle.emit_laws.specs.Trees.{Tree, size, lay, length_lay, sizes, nums, lays, length_lays}
-use Rattle.emit_laws.specs.Gates.{Literals, ClauseNumbers, link_of, normal, normal_numbers, trees, over_normal}
+use Rattle.emit_laws.specs.Trees.{Tree, size, lay, sizes, nums, lays}
+use Rattle.emit_laws.proofs.Trees.{length_lay, length_lays}
+use Rattle.emit_laws.specs.Gates.{Literals, ClauseNumbers, link_of, normal, normal_numbers, trees}
+use Rattle.emit_laws.proofs.Gates.{over_normal}
 use Rattle.emit_laws.specs.Place.{clause_count, behind, first_z_clause, last_number}
 use Rattle.emit_laws.specs.Loop.{slots, from, gate_trees, sign, loop}
 use Rattle.emit_laws.specs.Emit.{start_links, gate_lines, last_tree, emit}

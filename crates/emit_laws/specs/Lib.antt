@@ -14,4 +14,3 @@ pub mod Fields
 pub mod Text
 pub mod Proof
 pub mod Statement
-pub mod Correct

@@ -13,7 +13,8 @@ use Rattle.model.specs.Engine.{line_bound, working, provable, Outcome, Engine}
 use Rattle.fold_laws.specs.Engine.{by_reps}
 use Rattle.fold_laws.proofs.Engine.{differing_by_reps}
 use Rattle.emit_laws.specs.Text.{proof_text}
-use Rattle.emit_laws.specs.Proof.{proof_of, promised}
+use Rattle.emit_laws.specs.Proof.{proof_of}
+use Rattle.emit_laws.proofs.ProofLaws.{promised}
 use types.Run.{OneOf, miss}
 use denote.Enum.Declared.{tag_of}
 use Rattle.laws.specs.ListText.{text_of}
