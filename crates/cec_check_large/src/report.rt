@@ -1,7 +1,7 @@
 // A stream's report with the two limits of this program: 4 MiB, and a store of 65,535 clauses.
-ghost use Rattle.std.specs.Prelude.{◌≡◌, ◌*◌, length};
-ghost use Rattle.model.specs.Limits.{clause_width, most_clauses};
+ghost use Rattle.std.specs.Prelude.{◌≡◌, length};
 ghost use Rattle.cec_check_large.specs.Large.{large_program};
+ghost use Rattle.cec_check_large.specs.declared.report.TheConstants.{STORE_NUMBERS};
 
 use frame::kinds::REPORT_BYTES;
 use reports::report_within;
@@ -14,7 +14,7 @@ const STORE_NUMBERS: usize = 524280;
 
 // The store, as a value of which only the length is known: no proof writes its zeros out.
 fn store() -> [u16; STORE_NUMBERS]
-    ensures { length result ≡ clause_width * most_clauses }
+    ensures { length result ≡ STORE_NUMBERS }
 {
     [0; STORE_NUMBERS]
 }

@@ -22,7 +22,6 @@ pub loop-k-preserved : goal.loop-k-preserved
 loop-k-preserved c =
     let l = c.loop-k in
     let left = c.at_most-i.ensures in
-    let right = c.at_most-j.ensures in
     let counted = c.at_most-len.ensures in (
       omega arith,
       omega (arith, l.invariant.1),
@@ -31,7 +30,7 @@ loop-k-preserved c =
       simp length-set l.invariant.4,
       λ d e g h.
           joining_turn g.proper.rising h.proper.rising (l.invariant.5 d e g h) (c.at-x.ensures d g)
-          (c.at-y.ensures e h) c.least-lowest.ensures _ _ _ (left.1, left.2) (right.1, right.2) (counted.1, counted.2) (omega arith),
+          (c.at-y.ensures e h) c.least-lowest.ensures _ _ _ (left.1, left.2) (λ o. omega arith, λ o. omega arith) (counted.1, counted.2) (omega arith),
     )
 
 pub returns-then-least : goal.returns-then-least
