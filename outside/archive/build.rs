@@ -31,7 +31,7 @@ fn main() {
     if !archive.is_file() {
         // Only a warning: the crate can be checked without the library, though not linked.
         println!(
-            "cargo:warning={} is missing: build it first, or name its folder in CEC_ARCHIVE_DIR",
+            "cargo:warning={} is missing: build it first by `tools/build cec_abi` in the repository's folder, or name its folder in CEC_ARCHIVE_DIR",
             archive.display()
         );
     }

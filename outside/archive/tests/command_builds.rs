@@ -18,10 +18,11 @@ use common::samples::ADDER;
 
 const SENTENCE: &str = "accepted: both lists agree on every pattern (4 proof lines, 13 clauses)\n";
 
-/// A stand-in for `rt` that builds a checker; `before` comes first.
+/// A stand-in for `rt` that builds a checker in the crate's folder; `before` comes first.
 fn builder(before: &str) -> String {
-    let program = "printf '#!/bin/sh\\necho 21000000000004000D\\n' >\"target/bin/$2\"";
-    format!("echo much of it\n{before}\n{program}\nchmod +x \"target/bin/$2\"")
+    let program = "printf '#!/bin/sh\\necho 21000000000004000D\\n' >\"$file\"\nchmod +x \"$file\"";
+    let file = "mkdir -p out\nfile=out/${PWD##*/}";
+    format!("echo much of it >&2\n{before}\n{file}\n{program}")
 }
 
 /// Standard error of a check by this root's command, which is accepted.
@@ -39,7 +40,7 @@ fn a_program_is_built_on_its_first_use() {
     let root = stand_ins("build", &[("rt", &builder(""))]);
     assert_eq!(errors_of(&root), FIRST);
     assert_eq!(errors_of(&root), "");
-    let root = stand_ins("no-build", &[("rt", "echo why\nexit 1")]);
+    let root = stand_ins("no-build", &[("rt", "echo why >&2\nexit 1")]);
     let said = run_of(&root, &root, &["check", &sample(ADDER)]);
     fails(said, "why\ncec: not built: cec_check\n");
 }
@@ -81,14 +82,10 @@ fn a_program_that_is_older_than_a_source_is_built_again() {
 
 /// A stand-in that takes its time over two crates, as `rt` does.
 fn slow_builder() -> String {
-    // A file system need not tell the start from what is written at once; and each crate takes long
-    // enough to be seen where the machine has other work.
-    let first = "sleep 0.1\nmkdir -p target/log\necho failed >target/log/model.res\nsleep 2";
-    let second =
-        "echo proved >target/log/model.res\necho failed >target/log/cec_check.res\nsleep 2";
-    builder(&format!(
-        "{first}\n{second}\necho built >target/log/cec_check.res"
-    ))
+    // Each crate takes long enough to be seen where the machine has other work.
+    let first = "echo 'rt: chose --jobs 2 for model' >&2\nsleep 2";
+    let second = "echo 'rt: chose --jobs 1 for cec_check' >&2\nsleep 2";
+    builder(&format!("{first}\n{second}"))
 }
 
 fn slow_root(name: &str) -> PathBuf {
@@ -127,7 +124,7 @@ fn a_build_on_a_terminal_has_one_line() {
 
 #[test]
 fn an_interrupted_build_leaves_no_builder() {
-    let rt = "sleep 600 &\necho $! >begun\nmv begun worker\nwait";
+    let rt = "sleep 600 &\necho $! >begun\nmv begun ../../worker\nwait";
     ends_with_its_command(&["check", &sample(ADDER)], || {
         stand_ins("interrupted", &[("rt", rt)])
     });
@@ -166,8 +163,8 @@ fn a_link_to_the_command_finds_the_programs() {
 /// All programs that a command runs are built at once.
 #[test]
 fn programs_are_built_together() {
-    let rt = "printf '%s ' \"$@\" >asked\nexit 1";
-    let root = stand_ins("together", &[("rt", rt)]);
+    let build = "printf '%s ' \"$@\" >asked\nexit 1";
+    let root = stand_ins("together", &[("tools/build", build)]);
     let adder = sample(ADDER);
     let said = run_of(&root, &root, &["prove", &adder, &adder]);
     let programs = "cec_list cec_prove cec_check";
@@ -176,5 +173,5 @@ fn programs_are_built_together() {
         &format!("takes minutes: {programs}\ncec: not built: {programs}\n"),
     );
     let asked = fs::read_to_string(root.join("asked")).expect("it is there");
-    assert_eq!(asked, format!("check {programs} "));
+    assert_eq!(asked, format!("{programs} "));
 }

@@ -1,5 +1,5 @@
-//! Runs of the command `cec` of the repository's root, and of a copy of it with stand-ins for the
-//! programs, the finder, `rt` and `cargo`.
+//! Runs of the command `cec` of the repository's root, and of a copy of it and of `tools/build` with
+//! stand-ins for the programs, the finder, `rt` and `cargo`.
 
 // Each test uses a part of it.
 #![allow(dead_code)]
@@ -17,6 +17,15 @@ use crate::common::samples;
 
 /// Exit status, standard output and standard error.
 pub type Said = (Option<i32>, String, String);
+
+/// The programs that the command runs, each of them a crate.
+const PROGRAMS: [&str; 5] = [
+    "cec_check",
+    "cec_check_large",
+    "cec_eval",
+    "cec_list",
+    "cec_prove",
+];
 
 pub const ACCEPTED: &str = "accepted: both lists agree on every pattern";
 
@@ -107,8 +116,14 @@ pub fn stand_ins(name: &str, scripts: &[(&str, &str)]) -> PathBuf {
 /// The same in a folder that is there.
 pub fn put_stand_ins(root: &Path, scripts: &[(&str, &str)]) {
     fs::create_dir_all(root.join("target/bin")).expect("they are made");
-    let text = fs::read_to_string(self::root().join("cec")).expect("it is read");
-    make_executable(&root.join("cec"), &text);
+    fs::create_dir_all(root.join("tools")).expect("it is made");
+    for program in PROGRAMS {
+        fs::create_dir_all(root.join("crates").join(program)).expect("they are made");
+    }
+    for script in ["cec", "tools/build"] {
+        let text = fs::read_to_string(self::root().join(script)).expect("it is read");
+        make_executable(&root.join(script), &text);
+    }
     for (file, script) in scripts {
         let place = root.join(file);
         let place = place.parent().expect("it stands in the root");

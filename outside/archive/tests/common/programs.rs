@@ -68,7 +68,7 @@ fn file(program: &str) -> PathBuf {
     let file = dir().join(program);
     assert!(
         file.is_file(),
-        "{} is missing: build it first by `rt check {program}` in the repository's folder, or name \
+        "{} is missing: build it first by `tools/build {program}` in the repository's folder, or name \
          its folder in CEC_BIN_DIR",
         file.display()
     );
