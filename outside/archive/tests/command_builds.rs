@@ -160,6 +160,29 @@ fn a_link_to_the_command_finds_the_programs() {
     assert_eq!(said(command), (Some(0), SENTENCE.into(), String::new()));
 }
 
+/// Nothing old stands in the place of a program that was not built, or that prints something other
+/// than what is stored beside it.
+#[test]
+fn a_build_that_fails_leaves_no_program() {
+    let wrong = format!("{}\necho 1", builder(""));
+    let differs = "build: cec_check printed something other than crates/cec_check/stdout has\n";
+    let cases = [
+        ("left-unbuilt", "exit 1", ""),
+        ("left-wrong", &wrong, differs),
+    ];
+    for (name, rt, message) in cases {
+        let root = stand_ins(name, &[("target/bin/cec_check", "echo old"), ("rt", rt)]);
+        let path = env::var("PATH").expect("there is a path");
+        let mut command = Command::new(root.join("tools/build"));
+        let command = command.arg("cec_check").stdin(Stdio::null());
+        let command = command.env("PATH", format!("{}:{path}", root.display()));
+        let (status, _, errors) = said(command);
+        assert_eq!(status, Some(1), "{errors}");
+        assert!(errors.ends_with(message), "{errors}");
+        assert!(!root.join("target/bin/cec_check").exists(), "{name}");
+    }
+}
+
 /// All programs that a command runs are built at once.
 #[test]
 fn programs_are_built_together() {

@@ -161,6 +161,8 @@ fn crates() -> Vec<(String, Vec<String>)> {
     let pairs = lines.filter_map(|line| line.split_once(':'));
     let all: Vec<(String, Vec<String>)> = pairs
         .map(|(name, uses)| {
+            // A static library has a word behind its name that says so.
+            let name = name.split(' ').next().expect("it has a name");
             (
                 name.into(),
                 uses.split_whitespace().map(String::from).collect(),
