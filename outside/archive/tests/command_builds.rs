@@ -7,13 +7,13 @@ mod common;
 use std::env;
 use std::fs;
 use std::os::unix::fs::symlink;
-use std::path::{Path, PathBuf};
-use std::process::{self, Command, Stdio};
+use std::path::Path;
+use std::process::{Command, Stdio};
 use std::thread;
 use std::time::Duration;
 
-use cec::{ends_with_its_command, ACCEPTED};
-use cec::{fails, folder, put_stand_ins, root, run_of, said, sample, stand_ins};
+use cec::{ends_with_its_command, Folder, ACCEPTED};
+use cec::{fails, folder, root, run_of, said, sample, stand_ins};
 use common::samples::ADDER;
 
 const SENTENCE: &str = "accepted: both lists agree on every pattern (4 proof lines, 13 clauses)\n";
@@ -48,10 +48,7 @@ fn a_program_is_built_on_its_first_use() {
 /// Code of any crate and a definition of `model` count; the program is built again once.
 #[test]
 fn a_program_that_is_older_than_a_source_is_built_again() {
-    // Not in the repository, where `rt` would take the sources for its own.
-    let root = env::temp_dir().join(format!("cec-stale-{}", process::id()));
-    fs::create_dir(&root).expect("it is made");
-    put_stand_ins(&root, &[("rt", &builder(""))]);
+    let root = stand_ins("stale", &[("rt", &builder(""))]);
     for folder in ["crates/frame/src", "crates/model/specs"] {
         fs::create_dir_all(root.join(folder)).expect("they are made");
     }
@@ -77,7 +74,6 @@ fn a_program_that_is_older_than_a_source_is_built_again() {
     fs::write(root.join("rt"), "#!/bin/sh\n").expect("it is written");
     assert!(errors_of(&root).contains("crates.txt"));
     assert_eq!(errors_of(&root), "");
-    fs::remove_dir_all(&root).expect("it is ours");
 }
 
 /// A stand-in that takes its time over two crates, as `rt` does.
@@ -88,7 +84,7 @@ fn slow_builder() -> String {
     builder(&format!("{first}\n{second}"))
 }
 
-fn slow_root(name: &str) -> PathBuf {
+fn slow_root(name: &str) -> Folder {
     let root = stand_ins(name, &[("rt", &slow_builder())]);
     let crates = "# all of them\nmodel:\nsets: model\ncec_check: model io\n";
     fs::write(root.join("crates.txt"), crates).expect("it is written");

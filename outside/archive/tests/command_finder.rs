@@ -7,13 +7,13 @@ mod common;
 use std::env;
 use std::fs;
 use std::os::unix::fs::symlink;
-use std::path::{Path, PathBuf};
+use std::path::Path;
 use std::process::Command;
 use std::thread;
 use std::time::Duration;
 
 use cec::{becomes, command_of, ends_with_its_command, folder, put_stand_ins};
-use cec::{root, run_of, said, sample, says, stand_ins};
+use cec::{root, run_of, said, sample, says, stand_ins, Folder};
 use common::samples::{GUARD_OLD, GUARD_ONE_PATTERN};
 
 /// The words for two lists on which the engine of `searching` has no proof.
@@ -29,7 +29,7 @@ const NOTHING: &str =
 const FINDER: &str = "outside/target/release/finder";
 
 /// A root in which the engine leaves all to the finder, and this is `cargo`.
-fn searching(name: &str, cargo: &str) -> PathBuf {
+fn searching(name: &str, cargo: &str) -> Folder {
     let engine = "cat >/dev/null\necho 211200000100000000";
     let scripts = [
         ("target/bin/cec_list", becomes("cec_list")),
@@ -129,7 +129,7 @@ fn without_cargo_the_engine_alone_is_asked() {
     }
     let without = || {
         let mut command = command_of(&root, &root, &UNLIKE);
-        said(command.env("PATH", &tools))
+        said(command.env("PATH", &*tools))
     };
     let message = "cec: cargo is not there to build the finder, so the engine alone is asked\n";
     let refused = (Some(1), format!("{OPEN}\n"), message.into());

@@ -6,11 +6,11 @@ mod common;
 
 use std::env;
 use std::fs;
-use std::path::{Path, PathBuf};
+use std::path::Path;
 use std::process::{Command, Stdio};
 
 use cec::{becomes, build_finder, command_of, ends_with_its_command, fails, folder, run, run_of};
-use cec::{said, sample, says, stand_ins, ACCEPTED};
+use cec::{said, sample, says, stand_ins, Folder, ACCEPTED};
 use cec_reference::sample::{LISTS, PROOF};
 use common::proof_texts::{bench, proof_behind, P5};
 use common::samples::{self, GUARD_OLD, GUARD_ONE_PATTERN, GUARD_RESYNTHESISED};
@@ -28,7 +28,7 @@ const DIFFERS: &str = "they differ: pattern 02D4A1F09C3E6B57 gives 0000000000000
 
 /// A root with the programs of this checkout, but for an engine that prints this report, and with
 /// this finder. The paper's pair stands in it, as `gate` and `wire`.
-fn reported(name: &str, report: &str, finder: &str) -> PathBuf {
+fn reported(name: &str, report: &str, finder: &str) -> Folder {
     let programs = ["cec_list", "cec_check", "cec_check_large", "cec_eval"];
     let programs = programs.map(|program| (format!("target/bin/{program}"), becomes(program)));
     let mut scripts: Vec<(&str, &str)> = programs
@@ -44,7 +44,7 @@ fn reported(name: &str, report: &str, finder: &str) -> PathBuf {
 }
 
 /// The same with an engine that has no proof of anything.
-fn searched_by(name: &str, finder: &str) -> PathBuf {
+fn searched_by(name: &str, finder: &str) -> Folder {
     reported(name, OPEN, finder)
 }
 

@@ -7,10 +7,10 @@ mod common;
 
 use std::fs;
 use std::os::unix::fs::symlink;
-use std::path::{Path, PathBuf};
+use std::path::Path;
 use std::process::{Command, Stdio};
 
-use cec::{folder, root};
+use cec::{folder, root, Folder};
 
 /// The gate runs this test, and is not run by it.
 const GATE: &str = "bash .ci/run";
@@ -62,7 +62,7 @@ fn spans(readme: &str) -> impl Iterator<Item = &str> {
 }
 
 /// A folder that has all that the repository's has, and keeps what the commands leave.
-fn copy_of_root() -> PathBuf {
+fn copy_of_root() -> Folder {
     let folder = folder("readme");
     for entry in fs::read_dir(root()).expect("it is there") {
         let entry = entry.expect("it is read");

@@ -4,8 +4,11 @@
 // Each test uses a part of it.
 #![allow(dead_code)]
 
+use std::collections::hash_map::DefaultHasher;
 use std::env;
 use std::fs;
+use std::hash::{Hash, Hasher};
+use std::ops::Deref;
 use std::os::unix::process::CommandExt;
 use std::path::{Path, PathBuf};
 use std::process::{Command, Stdio};
@@ -33,14 +36,42 @@ pub fn root() -> PathBuf {
     Path::new(env!("CARGO_MANIFEST_DIR")).join("../..")
 }
 
-/// An empty folder of this name among the tests' own.
-pub fn folder(name: &str) -> PathBuf {
-    let folder = Path::new(env!("CARGO_TARGET_TMPDIR")).join(format!("cec-{name}"));
+/// A folder that a test has for itself, and that goes with it.
+pub struct Folder(PathBuf);
+
+impl Deref for Folder {
+    type Target = Path;
+
+    fn deref(&self) -> &Path {
+        &self.0
+    }
+}
+
+impl AsRef<Path> for Folder {
+    fn as_ref(&self) -> &Path {
+        &self.0
+    }
+}
+
+impl Drop for Folder {
+    fn drop(&mut self) {
+        // A panic within a panic would hide the first.
+        let _ = fs::remove_dir_all(&self.0);
+    }
+}
+
+/// An empty folder of this name, outside the checkout, where `rt ci` refuses links and any other
+/// `crates.txt`. Its place is the same in each run, so that cargo, asked there, has what it built.
+pub fn folder(name: &str) -> Folder {
+    let mut checkout = DefaultHasher::new();
+    env!("CARGO_MANIFEST_DIR").hash(&mut checkout);
+    let checkout = checkout.finish();
+    let folder = env::temp_dir().join(format!("cec-{checkout:016x}-{name}"));
     if folder.exists() {
         fs::remove_dir_all(&folder).expect("the folder is removed");
     }
     fs::create_dir(&folder).expect("the folder is made");
-    folder
+    Folder(folder)
 }
 
 /// The command of this root with these words, in a folder. A program `rt` or `cargo` in the root is
@@ -107,7 +138,7 @@ pub fn refuses(said: Said, sentence: &str) {
 }
 
 /// A root of its own, with these stand-ins.
-pub fn stand_ins(name: &str, scripts: &[(&str, &str)]) -> PathBuf {
+pub fn stand_ins(name: &str, scripts: &[(&str, &str)]) -> Folder {
     let root = folder(name);
     put_stand_ins(&root, scripts);
     root
@@ -184,7 +215,7 @@ fn ignores(signal: i32) -> bool {
 /// as a terminal sends it. What it started leaves the number of a process in the file `worker`, and
 /// that process ends too.
 #[track_caller]
-pub fn ends_with_its_command(words: &[&str], make_root: impl Fn() -> PathBuf) {
+pub fn ends_with_its_command(words: &[&str], make_root: impl Fn() -> Folder) {
     for (signal, group, status) in [("TERM", "", 143), ("INT", "-", 130), ("HUP", "", 129)] {
         if ignores(status - 128) {
             continue;
