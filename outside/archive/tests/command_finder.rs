@@ -185,8 +185,8 @@ const MISLEADING: [(&str, &str); 9] = [
 /// cargo has none of them, and what says where it is stays. A path for `cd` leads nowhere else.
 #[test]
 fn the_environment_does_not_say_how_the_finder_is_built() {
-    let name = "cec-finder-environment";
     let root = searching("finder-environment", CARGO);
+    let name = root.name();
     let decoy = root.join("decoy").join(name).join("outside");
     fs::create_dir_all(decoy).expect("they are made");
     let mut command = Command::new("sh");

@@ -39,6 +39,14 @@ pub fn root() -> PathBuf {
 /// A folder that a test has for itself, and that goes with it.
 pub struct Folder(PathBuf);
 
+impl Folder {
+    /// Its name in the folder above.
+    pub fn name(&self) -> &str {
+        let name = self.0.file_name().expect("it has a name");
+        name.to_str().expect("the name is text")
+    }
+}
+
 impl Deref for Folder {
     type Target = Path;
 
