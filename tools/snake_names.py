@@ -3,11 +3,12 @@
 
 usage: tools/snake_names.py [--list]      at the top of the repository, once, after the kit's port.py
 
-A lemma that would have its definition's name gets `_lem`. What turns: each name that a file of crates/*/specs or of crates/*/proofs (but no proof of one function) declares and that is written in camel
-case or with dashes: definitions, lemmas, fields of records, constructors and names of a `where`; `lineOf` and `line-of` become `line_of`, and a
-module that a file calls `frame-case` becomes `FrameCase`. What stays: names of types and modules, names that the library declares and this repository does not, and what Rattle makes itself for the proof of a
-function (the names behind `tie.` and those of its steps). In .rt files only words outside comments and strings turn: no name of the code itself
-has camel case or a dash. --list prints the table and writes nothing. Names that would fall together in a file are printed and nothing is written.
+What turns: each name that a file of crates/*/specs or of crates/*/proofs (but no proof of one function) declares and that is written in camel
+case or with dashes: definitions, lemmas, fields of records, constructors and names of a `where`; `lineOf` and `line-of` become `line_of`. A lemma
+that would have its definition's name gets `_lem`. A module that a file calls `frame-case` becomes `FrameCase`. What stays: names of types and
+modules, names that the library declares and this repository does not, and what Rattle makes itself for the proof of a function (the names behind
+`tie.` and those of its steps). In .rt files only words outside comments and strings turn: no name of the code itself has camel case or a dash.
+--list prints the table and writes nothing. Names that would fall together in a file are printed, and nothing is written.
 """
 
 import collections
