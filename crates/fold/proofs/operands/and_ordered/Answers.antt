@@ -1,5 +1,6 @@
 -- Test by test as the definition's cases (`OperandLaws`).
 use mathlib.Core.Path.{sym, ap, ◌∙◌}
+use native.Mathlib.Omega.{arith}
 use Rattle.fold_laws.specs.Cases.Made.{is}
 use Rattle.fold.proofs.OperandLaws.{and_nil, and_true, and_same, and_opposite, and_key}
 use Rattle.fold.proofs.operands.and_ordered.Goals as goal
@@ -16,7 +17,7 @@ returns-then-a-b c =
 
 pub returns-then-a-not_b : goal.returns-then-a-not_b
 returns-then-a-not_b c =
-    ap is c.of.ensures
+    ap is (omega arith)
     ∙ and_opposite _ _ c.if-a-eq-FALSE.false c.if-a-eq-TRUE.false c.if-a-b.false (c.if-a-not_b.true ∙ c.complement-not_b.ensures)
 
 pub returns : goal.returns
