@@ -1,39 +1,48 @@
 -- Laws of the frame that a kind and numbers make, by the digits that the kind's fields may have, and of four numbers in a list.
-use Prim.Native.Nat.{ℕ, ◌^◌, ◌<◌, ◌≤◌}
+use Prim.Native.Nat.{ℕ, ◌^◌, ◌<◌}
 use mathlib.Core.Path.{◌≡◌, refl}
 use mathlib.Core.List.{List, [], ◌∷◌}
-use mathlib.Core.Bool.{Bool, true, false, and-false, true≢false}
+use mathlib.Core.Bool.{Bool, true, false, cond, and-false, true≢false}
 use native.Mathlib.Omega.{arith}
 use lib.Dec.{eqb, ltb}
 use lib.ListN.{length, get_or, take}
-use borrow.Author.Tests.{lt-ltb, le-ltb, eqb-true}
+use borrow.Author.Tests.{lt-ltb, eqb-true}
 use Rattle.model.specs.Answers.{guard}
 use Rattle.model.specs.Answers.Answer.{ok, refused}
-use Rattle.model.specs.Frames.{widths, is_kind, report_kind, one_byte, two_bytes}
+use Rattle.model.specs.Frames.{widths, is_kind, report_kind, two_bytes}
 use Rattle.frame.specs.declared.Op.{Op}
 use Rattle.frame.specs.declared.Op.TheVariants.{And, Xor}
 use Rattle.frame.specs.Kinds.{operands_kind}
-use Rattle.cec_abi.specs.Calls.{any_number, limits, fit, frame_from}
+use Rattle.std.specs.Prelude.{Ok, Err}
+use Rattle.refusal.specs.declared.Reason.TheVariants.{Frame as Wrong}
+use Rattle.refusal.specs.declared.Refusal.{Refusal}
+use Rattle.cec_abi.specs.Calls.{any_number, limits, fit, frame_from, field}
 
 -- ---- a number against the digits of its field
 
-pub in_byte : (n : ℕ) → n ≤ 0xFF → ltb n (16 ^ one_byte) ≡ true
-in_byte n h = lt-ltb n 256 (omega arith)
+-- the refusal of a number that does not fit
+abbrev pub wrong : Refusal
+wrong = record { reason = Wrong; line = 0 }
 
-pub past_byte : (n : ℕ) → 0xFF < n → ltb n (16 ^ one_byte) ≡ false
-past_byte n h = le-ltb n 256 (omega arith)
+-- it fits, and is the field
+pub fits : (width n : ℕ) {x : ℕ} → Ok x ≡ field width n → (x ≡ n) × (ltb n (16 ^ width) ≡ true)
+fits width n {x} e = go (ltb n (16 ^ width)) refl e
+  where
+    go : (b : Bool) → ltb n (16 ^ width) ≡ b → Ok x ≡ cond b (Ok n) (Err wrong) → (x ≡ n) × (ltb n (16 ^ width) ≡ true)
+    go true t e = (cc, t)
+    go false t e = cc
 
-pub in_word : (n : ℕ) → n ≤ 0xFFFF → ltb n (16 ^ two_bytes) ≡ true
-in_word n h = lt-ltb n 65536 (omega arith)
-
-pub past_word : (n : ℕ) → 0xFFFF < n → ltb n (16 ^ two_bytes) ≡ false
-past_word n h = le-ltb n 65536 (omega arith)
+-- or it does not, and is refused by 3 at line 0
+pub misfits : (width n : ℕ) {r : Refusal} → Err r ≡ field width n → (r ≡ wrong) × (ltb n (16 ^ width) ≡ false)
+misfits width n {r} e = go (ltb n (16 ^ width)) refl e
+  where
+    go : (b : Bool) → ltb n (16 ^ width) ≡ b → Err r ≡ cond b (Ok n) (Err wrong)
+        → (r ≡ wrong) × (ltb n (16 ^ width) ≡ false)
+    go true t e = cc
+    go false t e = (cc, t)
 
 pub in_any : (n : ℕ) → n < 2 ^ 64 → ltb n (16 ^ any_number) ≡ true
 in_any n h = lt-ltb n (16 ^ any_number) h
-
--- each test's value, from the facts of the branches
-pub ruleset tests = (in_byte, past_byte, in_word, past_word, in_any, arith)
 
 -- ---- the limits of a kind
 

@@ -1,24 +1,24 @@
 -- Laws of the replies: a frame's numbers one by one, where the definition has the fields and zeros behind them; a list's by the counts; and
 -- a verdict's, whose first number is 0 only where the text is accepted.
-use Prim.Native.Nat.{ℕ, ◌≤◌}
-use mathlib.Core.Path.{◌≡◌, refl, ap}
-use mathlib.Core.List.{List, [], ◌∷◌}
+use Prim.Native.Nat.{ℕ, ◌-◌, ◌≤◌}
+use mathlib.Core.Path.{◌≡◌, refl}
+use mathlib.Core.List.{List, [], ◌∷◌, ◌++◌}
 use native.Mathlib.Omega.{arith}
-use lib.ListN.{length, get_or, take, get_or-eq_default, length-take}
-use Rattle.model.specs.Answers.{Answer}
+use lib.ListN.{length, get_or}
+use Rattle.model.specs.Answers.{Answer, zeros}
 use Rattle.model.specs.Answers.Answer.{ok, refused}
 use Rattle.model.specs.Frames.{Frame}
 use Rattle.model.specs.Nets.{Netlist}
 use Rattle.model.specs.Lists.{Lists}
 use Rattle.model.specs.Steps.{State}
 use Rattle.model.specs.Checker.{check}
-use Rattle.laws.specs.Answers.{ok_injective}
 use Rattle.laws.specs.Places.{Placed, check_placed}
 use Rattle.laws.specs.Places.Placed.{place}
 use Rattle.laws.specs.Soundness.{AgreeingLists, sound}
-use Rattle.checker.specs.Verdicts.{Counted, counted_of}
+use Rattle.checker.specs.Verdicts.{counted_of}
+use Rattle.checker.specs.declared.Accepted.{Accepted}
 use Rattle.frame.specs.declared.fields.Fields.{Fields}
-use Rattle.frame.specs.Frames.{Spells}
+use Rattle.frame.specs.Frames.{values_of, Spells}
 use Rattle.netlist.specs.declared.Counts.{Counts}
 use Rattle.netlist.specs.declared.Pair.{Pair}
 use Rattle.netlist.specs.Replies.{counts_of, pair_of}
@@ -26,26 +26,24 @@ use Rattle.cec_abi.specs.Replies.{frame_reply, list_reply, lists_reply, check_re
 
 -- ---- a frame
 
--- behind the first `count` there is nothing
-pub get_d_behind : (count : ℕ) (l : List ℕ) (i : ℕ) → count ≤ i → get_or (take count l) i 0 ≡ 0
-get_d_behind count l i h = get_or-eq_default (take count l) 0 (omega (arith, length-take count l))
+-- field i with zeros behind the last
+abbrev field_at : List ℕ → ℕ → ℕ
+field_at l i = get_or (l ++ zeros (4 - length l)) i 0
 
--- at most four fields, each by its place
-by_place : (kind : ℕ) (l : List ℕ) → length l ≤ 4
-    → 0 ∷ 0 ∷ kind ∷ get_or l 0 0 ∷ get_or l 1 0 ∷ get_or l 2 0 ∷ get_or l 3 0 ∷ [] ≡ frame_reply (ok (record { kind = kind; fields = l }))
-by_place kind [] h = refl
-by_place kind (a ∷ []) h = refl
-by_place kind (a ∷ b ∷ []) h = refl
-by_place kind (a ∷ b ∷ d ∷ []) h = refl
-by_place kind (a ∷ b ∷ d ∷ e ∷ []) h = refl
-by_place kind (a ∷ b ∷ d ∷ e ∷ x ∷ l) h = absurd (omega arith)
+with_zeros : (kind : ℕ) (l : List ℕ) → length l ≤ 4
+    → 0 ∷ 0 ∷ kind ∷ field_at l 0 ∷ field_at l 1 ∷ field_at l 2 ∷ field_at l 3 ∷ [] ≡ frame_reply (ok (record { kind = kind; fields = l }))
+with_zeros kind [] h = refl
+with_zeros kind (a ∷ []) h = refl
+with_zeros kind (a ∷ b ∷ []) h = refl
+with_zeros kind (a ∷ b ∷ d ∷ []) h = refl
+with_zeros kind (a ∷ b ∷ d ∷ e ∷ []) h = refl
+with_zeros kind (a ∷ b ∷ d ∷ e ∷ x ∷ l) h = absurd (omega arith)
 
--- the same of the struct that spells a frame
+-- the struct that spells a frame has zeros behind its fields
 pub spelt : (w : Fields) (f : Frame) → Spells w f → (first second third fourth : ℕ)
-    → first ≡ get_or (take w.count w.values) 0 0 → second ≡ get_or (take w.count w.values) 1 0 → third ≡ get_or (take w.count w.values) 2 0 → fourth ≡ get_or (take w.count w.values) 3 0
+    → first ≡ get_or (values_of w.fields) 0 0 → second ≡ get_or (values_of w.fields) 1 0 → third ≡ get_or (values_of w.fields) 2 0 → fourth ≡ get_or (values_of w.fields) 3 0
     → 0 ∷ 0 ∷ w.kind ∷ first ∷ second ∷ third ∷ fourth ∷ [] ≡ frame_reply (ok f)
-spelt w f s first second third fourth p q r t =
-    rw (p, q, r, t, s.kind, s.values) (by_place f.kind f.fields (rw (← s.values) (omega (arith, s.room, length-take w.count w.values))))
+spelt w f s first second third fourth p q r t = rw (p, q, r, t, s.kind, s.values) (with_zeros f.kind f.fields s.room)
 
 -- ---- lists, by what their counts come to
 
@@ -67,13 +65,9 @@ unpaired number line (refused m n) e = cc
 
 -- ---- verdicts
 
-pub accepted : (steps clauses : ℕ) (a : Answer State) → ok (record { steps = steps; clauses = clauses }) ≡ counted_of a → 0 ∷ 0 ∷ steps ∷ clauses ∷ [] ≡ check_reply a
-accepted steps clauses (ok s) e =
-    let c = ok_injective e in
-    let a : steps ≡ s.steps = ap (λ (c : Counted). c.steps) c in
-    let b : clauses ≡ length s.clauses = ap (λ (c : Counted). c.clauses) c in
-    rw (a, b)
-accepted steps clauses (refused number line) e = cc
+pub accepted : (k : Accepted) (a : Answer State) → ok k ≡ counted_of a → 0 ∷ 0 ∷ k.steps ∷ k.clauses ∷ [] ≡ check_reply a
+accepted k (ok s) e = cc
+accepted k (refused number line) e = cc
 
 pub unaccepted : (number line : ℕ) (a : Answer State) → refused number line ≡ counted_of a → number ∷ line ∷ 0 ∷ 0 ∷ [] ≡ check_reply a
 unaccepted number line (ok s) e = cc

@@ -1,7 +1,9 @@
 -- The writer's call: a frame from a kind and numbers, and what becomes of it; and the engine's, whose promise leaves the lines free.
-use Rattle.std.specs.Prelude.{ℕ, ◌^◌, ◌≡◌, Bool, true, false, ◌&&◌, cond, List, [], ◌∷◌, eqb, ltb, length, take}
+use Rattle.std.specs.Prelude.{ℕ, ◌^◌, ◌≡◌, Bool, true, false, ◌&&◌, cond, List, [], ◌∷◌, eqb, ltb, length, take, Result, Ok, Err}
 use Rattle.model.specs.Answers.{Answer, guard, bind, zeros}
 use Rattle.model.specs.Answers.Answer.{ok, refused}
+use Rattle.refusal.specs.declared.Reason.TheVariants.{Frame as Wrong}
+use Rattle.refusal.specs.declared.Refusal.{Refusal}
 use Rattle.cec_abi.specs.Replies.{number_reply}
 use Rattle.model.specs.Frames.{Frame, widths, is_kind, report_kind, one_byte, two_bytes, write_frame, written_frame}
 
@@ -19,6 +21,10 @@ unfoldable pub fit : List ℕ → List ℕ → Bool
 fit [] numbers = true
 fit (w ∷ ws) [] = false
 fit (w ∷ ws) (n ∷ numbers) = ltb n (16 ^ w) && fit ws numbers
+
+-- a number as a field of so many digits: 3 at line 0 if it has more
+abbrev pub field : ℕ → ℕ → Result ℕ Refusal
+field width n = cond (ltb n (16 ^ width)) (Ok n) (Err (record { reason = Wrong; line = 0 }))
 
 -- The frame of a kind with as many of the numbers as it has fields; 3 at line 0 if the kind is outside the table or a field does not fit.
 unfoldable pub frame_from : ℕ → List ℕ → Answer Frame

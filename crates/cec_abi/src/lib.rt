@@ -17,15 +17,14 @@ ghost use Rattle.cec_abi.specs.Replies.{frame_reply, number_reply, list_reply, l
 ghost use Rattle.cec_abi.specs.Calls.{Replied, write_answer, written_answer, write_numbers, written_numbers};
 
 use checker::check;
-use clearing::clear_bytes;
+use clearing::clear;
 use engine::prove;
 use evaluator::evaluate;
-use frame::{Decoded, Written, read_frame, write_frame};
+use frame::{Frame, read_frame, write_frame};
 use netlist::{read_list, read_lists};
 use numbers::frame_from;
-use replies::{
-    check_reply, frame_reply, list_reply, lists_reply, prove_reply, word_reply, write_reply,
-};
+use refusal::Refusal;
+use replies::{check_reply, frame_reply, list_reply, lists_reply, number_reply};
 
 // A lone line, as numbers: refusal, line, kind, four fields.
 #[unsafe(no_mangle)]
@@ -36,15 +35,15 @@ pub extern "C" fn cec_read_frame(text: &[u8], reply: &mut [u64; 7])
 }
 
 // The line of a frame, or of none: a refusal leaves zeros.
-fn write_answer(answer: Decoded, out: &mut [u8]) -> Written
+fn write_answer(answer: Result<Frame, Refusal>, out: &mut [u8]) -> Result<usize, Refusal>
     ensures replies { written_of result ≡ write_answer (decoded_of answer) (length out.old) }
     ensures leaves { out.new ≡ written_answer (decoded_of answer) (length out.old) }
 {
     match answer {
-        Decoded::Framed(frame) => write_frame(frame, out),
-        Decoded::Fault { number, line } => {
-            clear_bytes(out, 0);
-            Written::Unwritten { number, line }
+        Ok(frame) => write_frame(frame, out),
+        Err(refusal) => {
+            clear(out, 0);
+            Err(refusal)
         }
     }
 }
@@ -55,7 +54,8 @@ pub extern "C" fn cec_write_frame(kind: u8, fields: &[u64; 4], out: &mut [u8], r
     ensures replies { reply.new ≡ number_reply (write_numbers kind fields.now (length out.old)) }
     ensures leaves { out.new ≡ written_numbers kind fields.now (length out.old) }
 {
-    *reply = write_reply(write_answer(frame_from(kind, *fields), out));
+    let written = write_answer(frame_from(kind, *fields), out);
+    *reply = number_reply(written.map(|len| len as u64));
 }
 
 // One list, as numbers: refusal, line, inputs, gates, outputs.
@@ -80,7 +80,7 @@ pub extern "C" fn cec_evaluate(text: &[u8], pattern: u64, work: &mut [u8], reply
     ensures replies { reply.new ≡ number_reply (model.evaluate text.now pattern (length work.old)) }
     ensures leaves { work.new ≡ zeros (length work.old) }
 {
-    *reply = word_reply(evaluate(text, pattern, work));
+    *reply = number_reply(evaluate(text, pattern, work));
 }
 
 // The verdict on a text of two lists and a proof; the reply is refusal, line, steps, clauses. Where the refusal is 0, both lists agree on
@@ -99,5 +99,6 @@ pub extern "C" fn cec_check(text: &[u8], store: &mut [u16], reply: &mut [u64; 4]
 pub extern "C" fn cec_prove(text: &[u8], proof: &mut [u8], work: &mut [u16], reply: &mut [u64; 3])
     ensures { Replied reply.new (engine.Engine text.now (length proof.old) (length work.old)) proof.new work.new }
 {
-    *reply = prove_reply(prove(text, proof, work));
+    let proved = prove(text, proof, work);
+    *reply = number_reply(proved.map(|lines| lines as u64));
 }

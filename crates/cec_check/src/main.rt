@@ -4,11 +4,11 @@
 mod report; // a stream's report
 
 use report::report;
-use streams::{Stream, complain, print, read_stream, room};
+use streams::{complain, print, read_stream, room};
 
 fn main(rt: HostRuntime) {
     let mut stream = room();
-    let Stream::Read(n) = read_stream(&rt, &mut stream) else {
+    let Ok(n) = read_stream(&rt, &mut stream) else {
         complain(&rt, b"cec_check: standard input was not read to its end\n");
         return;
     };

@@ -7,7 +7,7 @@ mod report; // a stream's report
 ghost use Rattle.std.specs.Prelude.{◌≡◌, length};
 
 use report::report;
-use streams::{Stream, complain, print, read_stream};
+use streams::{complain, print, read_stream};
 
 // One byte more than a stream may have, so that a longer one is seen without being read to its end.
 fn room() -> [u8; 4194305]
@@ -18,7 +18,7 @@ fn room() -> [u8; 4194305]
 
 fn main(rt: HostRuntime) {
     let mut stream = room();
-    let Stream::Read(n) = read_stream(&rt, &mut stream) else {
+    let Ok(n) = read_stream(&rt, &mut stream) else {
         complain(
             &rt,
             b"cec_check_large: standard input was not read to its end\n",

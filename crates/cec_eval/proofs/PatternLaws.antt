@@ -4,6 +4,7 @@ use mathlib.Core.Path.{◌≡◌, refl, sym, ap, ◌∙◌}
 use mathlib.Core.Bool.{Bool, true, false, ◌&&◌, cond, true≢false}
 use mathlib.Core.List.{List, [], ◌∷◌, map}
 use native.Mathlib.Omega.{arith}
+use Rattle.std.specs.Prelude.{Some, None}
 use lib.Dec.{eqb, eqb-suc-suc}
 use lib.ListN.{length, length-map, length-drop, take, drop, drop_of_length-le}
 use lib.Seq.{drop-drop}
@@ -11,7 +12,6 @@ use borrow.Author.Tests.{eq-eqb, ne_eqb}
 use Rattle.model.specs.Lines.{is_digit, digit_value}
 use Rattle.model.specs.Frames.{number, two_bytes}
 use Rattle.digits.specs.Digits.{value_of, values, run, number_at}
-use Rattle.cec_eval.specs.declared.pattern.Pattern.TheVariants.{Bits, Wrong}
 use Rattle.cec_eval.specs.Program.{word_digits, all_digits, pattern_of}
 
 -- ---- digits alone
@@ -21,8 +21,8 @@ all_run : (l : List ℕ) → all_digits l ≡ eqb (run l) (length l)
 all_run [] = sym (eq-eqb 0 0 refl)
 all_run (b ∷ s) = go (is_digit b) (all_run s)
   where
-    go : (c : Bool) → all_digits s ≡ eqb (run s) (length s) → (c && all_digits s) ≡ eqb (cond c (suc (run s)) 0) (suc (length s))
-    go true e = e ∙ sym (eqb-suc-suc (run s) (length s))
+    go : (c : Bool) → all_digits s ≡ eqb (run s) (length s) → (c && all_digits s) ≡ eqb (cond c (1 + run s) 0) (suc (length s))
+    go true e = let one : 1 + run s ≡ suc (run s) = omega arith in rw one (e ∙ sym (eqb-suc-suc (run s) (length s)))
     go false e = sym (ne_eqb 0 (suc (length s)) (λ z. omega arith))
 
 -- the values of digits
@@ -68,18 +68,18 @@ sixteen vs e =
 -- ---- the three ways out
 
 module _ (l : List ℕ) where
-  pub other_length : (length l ≡ word_digits → ⊥) → Wrong ≡ pattern_of l
+  pub other_length : (length l ≡ word_digits → ⊥) → None ≡ pattern_of l
   unfolding pattern_of
   other_length h = rw (ne_eqb (length l) word_digits h)
 
-  pub other_byte : length l ≡ word_digits → (run l ≡ word_digits → ⊥) → Wrong ≡ pattern_of l
+  pub other_byte : length l ≡ word_digits → (run l ≡ word_digits → ⊥) → None ≡ pattern_of l
   unfolding pattern_of
   other_byte e h = rw (all_run l, e, ne_eqb (run l) word_digits h)
 
   pub spelled : length l ≡ word_digits → run l ≡ word_digits → (a b c d : ℕ) → a ≡ number_at l 0 two_bytes → b ≡ number_at l 4 two_bytes → c ≡ number_at l 8 two_bytes
-      → d ≡ number_at l 12 two_bytes → Bits (4294967296 * (65536 * a + b) + (65536 * c + d)) ≡ pattern_of l
+      → d ≡ number_at l 12 two_bytes → Some (4294967296 * (65536 * a + b) + (65536 * c + d)) ≡ pattern_of l
   unfolding pattern_of number_at
   spelled e h a b c d p q r s =
       let all : all_digits l ≡ true = rw (all_run l, e, h) in
       rw (e, all, all_values l all)
-      (ap Bits (omega (arith, sixteen (values l) (length-map l value_of ∙ e), p, q, r, s)))
+      (ap Some (omega (arith, sixteen (values l) (length-map l value_of ∙ e), p, q, r, s)))

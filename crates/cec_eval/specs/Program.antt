@@ -1,5 +1,5 @@
 -- What the evaluating program takes for a pattern, and what it prints.
-use Rattle.std.specs.Prelude.{ℕ, ◌+◌, Bool, true, ◌&&◌, cond, List, [], ◌∷◌, ◌++◌, map, eqb, length}
+use Rattle.std.specs.Prelude.{ℕ, ◌+◌, Bool, true, ◌&&◌, cond, List, [], ◌∷◌, ◌++◌, map, eqb, length, Option, Some, None}
 use Rattle.model.specs.Limits.{most_inputs, most_gates, stream_bytes}
 use Rattle.model.specs.Answers.{Answer}
 use Rattle.model.specs.Answers.Answer.{ok, refused}
@@ -8,8 +8,6 @@ use Rattle.model.specs.Frames.{number, hex, line_of}
 use Rattle.model.specs.Evaluator.{evaluate}
 use Rattle.model.specs.Checker.{limited}
 use Rattle.frame.specs.Frames.{report}
-use Rattle.cec_eval.specs.declared.pattern.Pattern.{Pattern}
-use Rattle.cec_eval.specs.declared.pattern.Pattern.TheVariants.{Bits, Wrong}
 
 -- ---- the argument
 
@@ -22,8 +20,8 @@ all_digits [] = true
 all_digits (b ∷ s) = is_digit b && all_digits s
 
 -- 16 digits are the pattern that they spell, and nothing else is one
-unfoldable pub pattern_of : List ℕ → Pattern
-pattern_of bytes = cond (eqb (length bytes) word_digits && all_digits bytes) (Bits (number 0 (map digit_value bytes))) Wrong
+unfoldable pub pattern_of : List ℕ → Option ℕ
+pattern_of bytes = cond (eqb (length bytes) word_digits && all_digits bytes) (Some (number 0 (map digit_value bytes))) None
 
 -- ---- the line that is printed
 

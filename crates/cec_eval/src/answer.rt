@@ -1,14 +1,14 @@
 // A stream's answer: the word of its list on a pattern, or the refusal, as the one line that the program prints.
 ghost use Rattle.std.specs.Prelude.{◌≡◌};
-ghost use Rattle.evaluator.specs.Replies.{evaluated_of};
+ghost use Rattle.refusal.specs.Answers.{answer_of};
 ghost use Rattle.printed.specs.Printing.{Prints};
 ghost use Rattle.cec_eval.specs.Program.{evaluated, program, word_line};
 
-use evaluator::{Evaluated, evaluate};
+use evaluator::evaluate;
 use frame::fields::put_hex;
 use frame::kinds::REPORT_BYTES;
 use printed::{Printed, refusal_line};
-use refusal::Refusal;
+use refusal::{Reason, Refusal};
 use streams::STREAM_BYTES;
 
 // The digits of a word of 64 bits.
@@ -18,14 +18,11 @@ const WORD_DIGITS: usize = 16;
 const WORKING_BYTES: usize = 1089;
 
 // The word of a stream's list on a pattern, or 1 for a stream that is too long.
-fn evaluate_stream(stream: &[u8], pattern: u64) -> Evaluated
-    ensures { evaluated_of result ≡ evaluated stream.now pattern }
+fn evaluate_stream(stream: &[u8], pattern: u64) -> Result<u64, Refusal>
+    ensures { answer_of result ≡ evaluated stream.now pattern }
 {
     if STREAM_BYTES < stream.len() {
-        return Evaluated::Refused(Refusal {
-            number: Refusal::STREAM,
-            line: 0,
-        });
+        return Err(Reason::Stream.at(0));
     }
     let mut work = [0u8; WORKING_BYTES];
     evaluate(stream, pattern, &mut work)
@@ -48,9 +45,8 @@ fn word_line(word: u64) -> Printed
 pub fn answer(stream: &[u8], pattern: u64) -> Printed
     ensures { Prints result (program stream.now pattern) }
 {
-    let evaluated = evaluate_stream(stream, pattern);
-    match evaluated {
-        Evaluated::Word(word) => word_line(word),
-        Evaluated::Refused(refusal) => refusal_line(refusal),
+    match evaluate_stream(stream, pattern) {
+        Ok(word) => word_line(word),
+        Err(refusal) => refusal_line(refusal),
     }
 }

@@ -6,18 +6,18 @@ mod answer; // a stream's answer
 mod pattern; // the argument's pattern
 
 use answer::answer;
-use pattern::{PATTERN_DIGITS, Pattern, pattern_of};
+use pattern::{PATTERN_DIGITS, pattern_of};
 use std::env::{Env, FillError};
-use streams::{Stream, complain, print, read_stream, room};
+use streams::{complain, print, read_stream, room};
 
 // The pattern of the one argument. An argument that is longer than a pattern is none.
-fn argument(rt: &HostRuntime) -> Pattern {
+fn argument(rt: &HostRuntime) -> Option<u64> {
     let mut digits = [0u8; PATTERN_DIGITS];
     let Err(FillError::NotPresent) = rt.arg(2, &mut digits) else {
-        return Pattern::Wrong;
+        return None;
     };
     let Ok(n) = rt.arg(1, &mut digits) else {
-        return Pattern::Wrong;
+        return None;
     };
     pattern_of(&digits[..n])
 }
@@ -35,7 +35,7 @@ fn run(rt: &HostRuntime, stream: &[u8], pattern: u64) {
 }
 
 fn main(rt: HostRuntime) {
-    let Pattern::Bits(pattern) = argument(&rt) else {
+    let Some(pattern) = argument(&rt) else {
         complain(
             &rt,
             b"cec_eval: its one argument is a pattern of 16 digits 0-9 and A-F\n",
@@ -43,7 +43,7 @@ fn main(rt: HostRuntime) {
         return;
     };
     let mut stream = room();
-    let Stream::Read(n) = read_stream(&rt, &mut stream) else {
+    let Ok(n) = read_stream(&rt, &mut stream) else {
         complain(&rt, b"cec_eval: standard input was not read to its end\n");
         return;
     };

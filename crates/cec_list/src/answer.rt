@@ -1,25 +1,23 @@
 // A stream's answer: the counts of its one list, or the refusal, as the one line that the program prints.
 ghost use Rattle.std.specs.Prelude.{◌≡◌};
 ghost use Rattle.model.specs.Frames.{line_of};
-ghost use Rattle.netlist.specs.Replies.{counts_reply, counts_of};
+ghost use Rattle.refusal.specs.Answers.{answer_of};
+ghost use Rattle.netlist.specs.Replies.{counts_of};
 ghost use Rattle.printed.specs.Printing.{Prints};
 ghost use Rattle.cec_list.specs.Program.{listed, program, Few, counts_frame};
 
 use frame::Frame;
-use netlist::{Counts, One, read_list};
+use netlist::{Counts, read_list};
 use printed::{Printed, frame_line, refusal_line};
-use refusal::Refusal;
+use refusal::{Reason, Refusal};
 use streams::STREAM_BYTES;
 
 // The counts of a stream's list, or 1 for a stream that is too long.
-fn list_stream(stream: &[u8]) -> One
-    ensures { counts_reply result ≡ counts_of (listed stream.now) }
+fn list_stream(stream: &[u8]) -> Result<Counts, Refusal>
+    ensures { answer_of result ≡ counts_of (listed stream.now) }
 {
     if STREAM_BYTES < stream.len() {
-        return One::Refused(Refusal {
-            number: Refusal::STREAM,
-            line: 0,
-        });
+        return Err(Reason::Stream.at(0));
     }
     read_list(stream)
 }
@@ -41,7 +39,7 @@ pub fn answer(stream: &[u8]) -> Printed
     ensures { Prints result (program stream.now) }
 {
     match list_stream(stream) {
-        One::Counted(counts) => counts_line(counts),
-        One::Refused(refusal) => refusal_line(refusal),
+        Ok(counts) => counts_line(counts),
+        Err(refusal) => refusal_line(refusal),
     }
 }

@@ -5,7 +5,7 @@
 mod answer; // a stream's answer
 
 use answer::answer;
-use streams::{Stream, complain, print, read_stream, room};
+use streams::{complain, print, read_stream, room};
 
 // Prints the answer to a stream.
 fn run(rt: &HostRuntime, stream: &[u8]) {
@@ -21,7 +21,7 @@ fn run(rt: &HostRuntime, stream: &[u8]) {
 
 fn main(rt: HostRuntime) {
     let mut stream = room();
-    let Stream::Read(n) = read_stream(&rt, &mut stream) else {
+    let Ok(n) = read_stream(&rt, &mut stream) else {
         complain(&rt, b"cec_list: standard input was not read to its end\n");
         return;
     };

@@ -5,6 +5,7 @@ use mathlib.Core.Path.{◌≡◌, refl, sym, ap, ◌∙◌}
 use mathlib.Core.List.{List, ◌++◌}
 use native.Mathlib.Omega.{arith}
 use lib.ListN.{length, take, length-append, length-replicate, length-take}
+use Rattle.std.specs.Prelude.{Result, Ok, Err}
 use lib.Seq.{take_at, take-length}
 use borrow.Author.Tests.{le-leb}
 use Rattle.model.specs.Limits.{stream_bytes, highest_line, proof_line_bytes}
@@ -19,9 +20,8 @@ use Rattle.laws.specs.Places.{provable_placed}
 use Rattle.laws.specs.Streams.{over_limit, within_limit, limited_placed, placed_line}
 use Rattle.frame.specs.Frames.{report}
 use Rattle.frame.proofs.WriteLaws.{report_length}
-use Rattle.engine.specs.declared.Proved.{Proved}
-use Rattle.engine.specs.declared.Proved.TheVariants.{Lines, Refused}
-use Rattle.engine.specs.Replies.{proved_of}
+use Rattle.refusal.specs.declared.Refusal.{Refusal}
+use Rattle.refusal.specs.Answers.{answer_of}
 use Rattle.cec_prove.specs.declared.evidence.Printed.{Printed}
 use Rattle.cec_prove.specs.Streams.{same_forms, due_to, proof_bytes, working_numbers, Answered, Prints}
 
@@ -57,18 +57,18 @@ module _ (stream : List ℕ) where
   unfolding due_to
   not_too_long h = within_limit stream_bytes stream _ h ∙ sym (enough (read_lists stream) refl)
 
-  pub answered : length stream ≤ stream_bytes → (r : Proved) (out work : List ℕ) → length out ≡ proof_bytes → Engine stream proof_bytes working_numbers (proved_of r) out work
+  pub answered : length stream ≤ stream_bytes → (r : Result ℕ Refusal) (out work : List ℕ) → length out ≡ proof_bytes → Engine stream proof_bytes working_numbers (answer_of r) out work
       → Answered stream r out work
   answered h r out work long = go (provable stream proof_bytes working_numbers) (not_too_long h) r
     where
-      go : (a : Answer Lists) → due_to stream ≡ a → (r : Proved) → Outcome stream proof_bytes working_numbers a (proved_of r) out work → Answered stream r out work
-      go (ok l) e (Lines n) (m, proof, reply, v, o, w) =
+      go : (a : Answer Lists) → due_to stream ≡ a → (r : Result ℕ Refusal) → Outcome stream proof_bytes working_numbers a (answer_of r) out work → Answered stream r out work
+      go (ok l) e (Ok n) (m, proof, reply, v, o, w) =
           let fits : length proof + (proof_bytes - length proof) ≡ proof_bytes = simp (length-append, length-replicate) at (sym (ap length o) ∙ long) in
           let c = ok_injective reply in
           (l, proof, e, rw c v, omega (arith, fits, c, v.bytes), o, w)
-      go (ok l) e (Refused r) (m, proof, reply, v, o, w) = absurd (refused_not_ok reply)
-      go (refused number line) e (Lines n) (reply, o, w) = absurd (refused_not_ok (sym reply))
-      go (refused number line) e (Refused r) (reply, o, w) = (e ∙ same_refusal reply, w)
+      go (ok l) e (Err r) (m, proof, reply, v, o, w) = absurd (refused_not_ok reply)
+      go (refused number line) e (Ok n) (reply, o, w) = absurd (refused_not_ok (sym reply))
+      go (refused number line) e (Err r) (reply, o, w) = (e ∙ same_refusal reply, w)
 
   -- ---- what is printed
 
@@ -79,7 +79,7 @@ module _ (stream : List ℕ) where
       let placed = rw (enough (read_lists stream) refl) at (provable_placed stream proof_bytes working_numbers) in
       placed_line (limited_placed stream_bytes stream _ (λ short. omega arith) placed) e
 
-  pub proof_printed : (n : ℕ) (p : Printed) {out work : List ℕ} → p.lists ≡ length stream → p.behind ≡ proof_line_bytes * n → Answered stream (Lines n) out work → Prints stream p out work
+  pub proof_printed : (n : ℕ) (p : Printed) {out work : List ℕ} → p.lists ≡ length stream → p.behind ≡ proof_line_bytes * n → Answered stream (Ok n) out work → Prints stream p out work
   proof_printed n p {out} all long (l, proof, e, v, fits, o, w) =
       let whole : take p.behind out ≡ proof = rw o (take_at proof (zeros (proof_bytes - length proof)) p.behind (v.bytes ∙ sym long)) in
       record {

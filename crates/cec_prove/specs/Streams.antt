@@ -1,5 +1,5 @@
 -- What the proving program prints for a stream, and what its memory holds then.
-use Rattle.std.specs.Prelude.{ℕ, ◌+◌, ◌*◌, ◌≤◌, ◌≡◌, List, ◌++◌, eqb, length, take}
+use Rattle.std.specs.Prelude.{ℕ, ◌+◌, ◌*◌, ◌≤◌, ◌≡◌, List, ◌++◌, eqb, length, take, Result, Ok, Err}
 use Rattle.model.specs.Limits.{most_inputs, most_gates, most_outputs, stream_bytes, lines_per_gate, lines_per_output, proof_line_bytes, numbers_per_net}
 use Rattle.model.specs.Answers.{Answer, guard, bind, zeros, filled}
 use Rattle.model.specs.Answers.Answer.{ok, refused}
@@ -9,8 +9,8 @@ use Rattle.model.specs.Checker.{limited}
 use Rattle.model.specs.Forms.{differing}
 use Rattle.model.specs.Engine.{Proves}
 use Rattle.frame.specs.Frames.{report}
-use Rattle.engine.specs.declared.Proved.{Proved}
-use Rattle.engine.specs.declared.Proved.TheVariants.{Lines, Refused}
+use Rattle.refusal.specs.declared.Refusal.{Refusal}
+use Rattle.refusal.specs.Answers.{refused_by}
 use Rattle.cec_prove.specs.declared.evidence.Printed.{Printed}
 
 -- ---- what is due
@@ -33,11 +33,11 @@ working_numbers = numbers_per_net * (1 + most_inputs + 2 * most_gates)
 -- ---- the engine's part
 
 -- A proof that is due, with place in the buffer and zeros behind it, or the refusal that is due; the working numbers are zeros.
-abbrev pub Answered : List ℕ → Proved → List ℕ → List ℕ → Type 0
-Answered stream (Lines n) out work =
+abbrev pub Answered : List ℕ → Result ℕ Refusal → List ℕ → List ℕ → Type 0
+Answered stream (Ok n) out work =
     (l : Lists) × (proof : List ℕ) × (due_to stream ≡ ok l) × Proves stream l n proof × (proof_line_bytes * n ≤ proof_bytes)
     × (out ≡ filled proof_bytes proof) × (work ≡ zeros working_numbers)
-Answered stream (Refused r) out work = (due_to stream ≡ refused r.number r.line) × (work ≡ zeros working_numbers)
+Answered stream (Err r) out work = (due_to stream ≡ refused_by r) × (work ≡ zeros working_numbers)
 
 -- ---- what is printed
 

@@ -1,11 +1,11 @@
 // What the program prints for a stream: both lists as they came and the engine's proof behind them, or one report frame with the refusal.
 ghost use Rattle.cec_prove.specs.Streams.{Answered, Prints};
 
-use clearing::clear_numbers;
-use engine::{Proved, prove};
+use clearing::clear;
+use engine::prove;
 use frame::kinds::{REPORT_BYTES, RESOLVE_BYTES};
 use frame::{Frame, write_frame};
-use refusal::Refusal;
+use refusal::{Reason, Refusal};
 use streams::STREAM_BYTES;
 
 // Proof bytes for the largest lists: 15 × (16 × 2,048 + 12 × 64).
@@ -26,15 +26,12 @@ fn prove_stream(
     stream: &[u8],
     out: &mut [u8; PROOF_BYTES],
     work: &mut [u16; WORKING_NUMBERS],
-) -> Proved
+) -> Result<usize, Refusal>
     ensures { Answered stream.now result out.new work.new }
 {
     if STREAM_BYTES < stream.len() {
-        clear_numbers(work, 0);
-        return Proved::Refused(Refusal {
-            number: Refusal::STREAM,
-            line: 0,
-        });
+        clear(work, 0);
+        return Err(Reason::Stream.at(0));
     }
     prove(stream, out, work)
 }
@@ -47,19 +44,18 @@ pub fn evidence(
 ) -> Printed
     ensures { Prints stream.now result out.new work.new }
 {
-    let proved = prove_stream(stream, out, work);
-    match proved {
-        Proved::Lines(lines) => {
+    match prove_stream(stream, out, work) {
+        Ok(lines) => {
             let behind = RESOLVE_BYTES * lines;
             Printed {
                 lists: stream.len(),
                 behind,
             }
         }
-        Proved::Refused(refusal) => {
-            write_frame(
+        Err(refusal) => {
+            let _ = write_frame(
                 Frame::Report {
-                    refusal: refusal.number,
+                    refusal: refusal.reason.number(),
                     line: refusal.line,
                     steps: 0,
                     clauses: 0,

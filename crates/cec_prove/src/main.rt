@@ -6,7 +6,7 @@ mod evidence; // what is printed for a stream
 
 use evidence::{PROOF_BYTES, WORKING_NUMBERS, evidence};
 use std::io::Write;
-use streams::{Stream, complain, read_stream, room};
+use streams::{complain, read_stream, room};
 
 // Both parts of what is printed, and a message where they could not be written.
 fn print(rt: &HostRuntime, lists: &[u8], behind: &[u8]) {
@@ -24,7 +24,7 @@ fn print(rt: &HostRuntime, lists: &[u8], behind: &[u8]) {
 
 fn main(rt: HostRuntime) {
     let mut stream = room();
-    let Stream::Read(n) = read_stream(&rt, &mut stream) else {
+    let Ok(n) = read_stream(&rt, &mut stream) else {
         complain(&rt, b"cec_prove: standard input was not read to its end\n");
         return;
     };

@@ -2,10 +2,8 @@
 use Prim.Native.Nat.{ℕ, ◌-◌, ◌*◌, ◌≤◌}
 use mathlib.Core.Path.{◌≡◌, refl, sym, ◌∙◌}
 use mathlib.Core.Bool.{Bool, true, false}
-use mathlib.Core.List.{List, [], ◌∷◌, ◌++◌}
+use mathlib.Core.List.{List, ◌++◌}
 use native.Mathlib.Omega.{arith}
-use types.Run.{OneOf, miss}
-use denote.Enum.Declared.{tag_of}
 use lib.Dec.{leb}
 use lib.ListN.{length, take}
 use Rattle.model.specs.Answers.{Answer, guard, bind, zeros, filled}
@@ -16,12 +14,9 @@ use Rattle.model.specs.Lists.{Lists, read_both}
 use Rattle.model.specs.Miter.{miter}
 use Rattle.model.specs.Steps.{State, replay}
 use Rattle.model.specs.Checker.{begin, verdict_on, capacity, check, stored_all}
-use Rattle.netlist.specs.contracts.Both as BothType
 use Rattle.netlist.specs.declared.Pair.{Pair}
-use Rattle.netlist.specs.declared.Both.{Both}
-use Rattle.netlist.specs.declared.Both.TheVariants.{Paired, Refused}
 use Rattle.netlist.specs.Says.{from}
-use Rattle.netlist.specs.Replies.{both_refusal, pair_reply, both_of}
+use Rattle.netlist.specs.Replies.{both_of}
 use Rattle.netlist.proofs.ReplyLaws.{BothLists, both_none}
 use Rattle.steps.specs.declared.Progress.{Progress}
 use Rattle.steps.specs.Progress.{Tracks}
@@ -54,13 +49,13 @@ module _ {text : List ℕ} {p : Pair} (b : BothLists text p) (n room : ℕ) (is 
   unfolding check
   check_is = rw (b.reads, sym is) (by_begin room b.read.lists b.read.rest b.read.line ∙ rw (b.rest, b.line))
 
-  pub begin_refused : (number line : ℕ) → begun_as ≡ refused number line → check text n ≡ refused number line
-  begin_refused number line e = check_is ∙ rw e
+  pub begin_refused : {number line : ℕ} → begun_as ≡ refused number line → check text n ≡ refused number line
+  begin_refused e = check_is ∙ rw e
 
   module _ (s₀ : State) (begun : begun_as ≡ ok s₀) where
-    pub replay_refused : (number line : ℕ) → replay room s₀ (from text p.next) p.next.line ≡ refused number line
+    pub replay_refused : {number line : ℕ} → replay room s₀ (from text p.next) p.next.line ≡ refused number line
         → check text n ≡ refused number line
-    replay_refused number line e = check_is ∙ rw (begun, e)
+    replay_refused e = check_is ∙ rw (begun, e)
 
     replayed : (s : State) → replay room s₀ (from text p.next) p.next.line ≡ ok s → check text n ≡ guard s.empty 15 0 (ok s)
     replayed s e = check_is ∙ rw (begun, e)
@@ -74,11 +69,9 @@ module _ {text : List ℕ} {p : Pair} (b : BothLists text p) (n room : ℕ) (is 
     accepted s e f = replayed s e ∙ rw f
 
 -- where the lists are refused
-pub unread : (text : List ℕ) (n : ℕ) (got : Both) → pair_reply got ≡ both_of (read_both text) → OneOf (1 ∷ []) (tag_of BothType.the_type got)
-    → check text n ≡ refused (both_refusal got).number (both_refusal got).line
+pub unread : (text : List ℕ) (n : ℕ) {number line : ℕ} → refused number line ≡ both_of (read_both text) → check text n ≡ refused number line
 unfolding check
-unread text n (Paired p) e k = absurd (miss (1 ∷ []) 0 tt k)
-unread text n (Refused r) e k = rw (both_none text r.number r.line e)
+unread text n {number} {line} e = rw (both_none text number line e)
 
 -- ---- the store afterwards
 

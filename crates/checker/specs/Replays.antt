@@ -1,15 +1,12 @@
 -- What a row of resolves says of the lines from a cursor on.
-use Rattle.std.specs.Prelude.{ℕ, ◌≤◌, ◌≡◌, List, length}
-use Rattle.model.specs.Answers.Answer.{refused}
+use Rattle.std.specs.Prelude.{ℕ, ◌≤◌, ◌≡◌, List, length, Result, Ok, Err}
 use Rattle.model.specs.Steps.{State, replay}
 use Rattle.frame.specs.declared.Cursor.{Cursor}
 use Rattle.frame.specs.Frames.{Inside}
+use Rattle.refusal.specs.declared.Refusal.{Refusal}
+use Rattle.refusal.specs.Answers.{refused_by}
 use Rattle.netlist.specs.Says.{from}
 use Rattle.steps.specs.declared.Progress.{Progress}
-use Rattle.steps.specs.declared.Stepped as stepped
-use Rattle.steps.specs.declared.Stepped.TheVariants as SteppedCase
-use Rattle.checker.specs.declared.replay.Ran.{Ran}
-use Rattle.checker.specs.declared.replay.Ran.TheVariants.{At, Refused}
 use Rattle.steps.specs.Progress.{Tracks, Within}
 
 -- the lines up to a cursor are replayed: replaying the others comes to what replaying all comes to
@@ -25,10 +22,6 @@ pub record RanTo (room : ℕ) (text : List ℕ) (c₀ : Cursor) (store₀ : List
   pub long : length store ≡ length store₀
   pub from_all : (s : State) → Tracks store₀ p₀ s → Replayed room text c₀ s store c p
 
-abbrev pub RanSays : ℕ → List ℕ → Cursor → List ℕ → Progress → List ℕ → Ran → Type 0
-RanSays room text c₀ store₀ p₀ store (At c p) = RanTo room text c₀ store₀ p₀ store c p × (c₀.at ≤ c.at)
-RanSays room text c₀ store₀ p₀ store (Refused r) = (s : State) → Tracks store₀ p₀ s → replay room s (from text c₀) c₀.line ≡ refused r.number r.line
-
-abbrev pub stopped_of : Ran → stepped.Stepped
-stopped_of (At c p) = SteppedCase.Done p
-stopped_of (Refused r) = SteppedCase.Refused r
+abbrev pub RanSays : ℕ → List ℕ → Cursor → List ℕ → Progress → List ℕ → Result (Cursor × Progress) Refusal → Type 0
+RanSays room text c₀ store₀ p₀ store (Ok (c, p)) = RanTo room text c₀ store₀ p₀ store c p × (c₀.at ≤ c.at)
+RanSays room text c₀ store₀ p₀ store (Err r) = (s : State) → Tracks store₀ p₀ s → replay room s (from text c₀) c₀.line ≡ refused_by r

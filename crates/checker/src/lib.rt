@@ -7,40 +7,39 @@ mod verdict; // the verdict, with the clauses left in the store
 
 ghost use Rattle.std.specs.Prelude.{◌≡◌, length};
 ghost use Rattle.model.specs.Checker as model;
-ghost use Rattle.checker.specs.Verdicts.{checked_of, counted_of, Agreeing};
+ghost use Rattle.refusal.specs.Answers.{answer_of};
+ghost use Rattle.checker.specs.Verdicts.{counted_of, Agreeing};
 
 use clause::Clause;
-use clearing::clear_numbers;
+use clearing::clear;
 use refusal::Refusal;
-use steps::Stepped;
 use verdict::verdict;
 
-// An accepted proof's lines and clauses, or the refusal.
-#[derive(Clone, Copy)]
-pub enum Checked {
-    Accepted { steps: usize, clauses: usize },
-    Refused(Refusal),
+// An accepted proof's lines and clauses.
+#[derive(Clone, Copy, PartialEq, Eq)]
+pub struct Accepted {
+    pub steps: usize,
+    pub clauses: usize,
 }
 
 // The verdict on a text. After acceptance the store holds every clause in order and zeros behind, after a refusal zeros. Where a text is
 // accepted, its two lists agree on every pattern.
-pub fn check(text: &[u8], store: &mut [u16]) -> Checked
-    ensures replies { checked_of result ≡ counted_of (model.check text.now (length store.old)) }
+pub fn check(text: &[u8], store: &mut [u16]) -> Result<Accepted, Refusal>
+    ensures replies { answer_of result ≡ counted_of (model.check text.now (length store.old)) }
     ensures leaves { store.new ≡ model.store_after (length store.old) (model.check text.now (length store.old)) }
     ensures agrees { Agreeing text.now result }
 {
-    let answered = verdict(text, store);
-    match answered {
-        Stepped::Done(p) => {
-            clear_numbers(store, Clause::WIDTH * p.clauses);
-            Checked::Accepted {
+    match verdict(text, store) {
+        Ok(p) => {
+            clear(store, Clause::WIDTH * p.clauses);
+            Ok(Accepted {
                 steps: p.steps,
                 clauses: p.clauses,
-            }
+            })
         }
-        Stepped::Refused(r) => {
-            clear_numbers(store, 0);
-            Checked::Refused(r)
+        Err(refusal) => {
+            clear(store, 0);
+            Err(refusal)
         }
     }
 }

@@ -1,21 +1,26 @@
 // All lines of a proof, one step each (document 01, 'Steps'), up to the end of the text or the first fault.
-ghost use Rattle.std.specs.Prelude.{◌≡◌};
 ghost use Rattle.model.specs.Steps as model;
 ghost use Rattle.model.specs.Steps.{State};
 ghost use Rattle.frame.specs.Frames.{frame_of, Inside};
 ghost use Rattle.netlist.specs.Says.{from};
 ghost use Rattle.steps.specs.Progress.{Tracks, Within, Says};
-ghost use Rattle.checker.specs.Lines.{frame_step, ended_of};
-ghost use Rattle.checker.specs.Replays.{RanSays, stopped_of};
+ghost use Rattle.checker.specs.Lines.{frame_step};
+ghost use Rattle.checker.specs.Replays.{RanSays};
 
-use frame::kinds::{Kind, RESOLVE_BYTES, kind_at};
-use frame::read::{Resolve, resolve_at};
-use frame::{Cursor, Frame, Line, read_line};
-use refusal::Refusal;
-use steps::{Progress, Stepped, extend_step, resolve_step};
+use frame::kinds::RESOLVE_BYTES;
+use frame::rows::resolve_line;
+use frame::{Cursor, Frame, read_line};
+use refusal::{Reason, Refusal};
+use steps::{Progress, extend_step, resolve_step};
 
 // The step that a frame means: 3 unless it is a step.
-fn frame_step(store: &mut [u16], p: Progress, room: usize, line: usize, frame: Frame) -> Stepped
+fn frame_step(
+    store: &mut [u16],
+    p: Progress,
+    room: usize,
+    line: usize,
+    frame: Frame,
+) -> Result<Progress, Refusal>
     requires { Within store.old p room }
     ensures { (s : State) → Tracks store.old p s → Says room (frame_step room line s (frame_of frame)) store.new result }
 {
@@ -34,78 +39,33 @@ fn frame_step(store: &mut [u16], p: Progress, room: usize, line: usize, frame: F
             variable,
         ),
         Frame::Extend { op, x, y } => extend_step(store, p, room, line, op, x, y),
-        _ => Stepped::Refused(Refusal {
-            number: Refusal::FRAME,
-            line,
-        }),
+        _ => Err(Reason::Frame.at(line)),
     }
 }
 
-// Where no frame stands: the end of the proof, or the line's refusal.
-fn ended(got: Line, p: Progress) -> Stepped
-    ensures { result ≡ ended_of got p }
-{
-    match got {
-        Line::Refused { number, line } => Stepped::Refused(Refusal { number, line }),
-        Line::End => Stepped::Done(p),
-        Line::Read(_, _) => Stepped::Done(p),
-    }
-}
-
-// How far the resolves in a row went: a cursor behind them and the progress then, or the refusal of one.
-#[derive(Clone, Copy)]
-pub enum Ran {
-    At(Cursor, Progress),
-    Refused(Refusal),
-}
-
-// The refusal as the answer to all lines.
-fn stopped(ran: Ran) -> Stepped
-    ensures { result ≡ stopped_of ran }
-{
-    match ran {
-        Ran::At(_, p) => Stepped::Done(p),
-        Ran::Refused(r) => Stepped::Refused(r),
-    }
-}
-
-// The resolves in a row from a cursor on. Long proofs have hardly any other line, and no frame is built for these.
-fn run_resolves(text: &[u8], cursor: Cursor, store: &mut [u16], start: Progress, room: usize) -> Ran
+// The resolves in a row from a cursor on: the cursor behind them and the progress then, or the refusal of one. Long proofs have hardly any other
+// line, and no frame is built for these.
+fn run_resolves(
+    text: &[u8],
+    cursor: Cursor,
+    store: &mut [u16],
+    start: Progress,
+    room: usize,
+) -> Result<(Cursor, Progress), Refusal>
     requires { Inside text.now cursor × Within store.old start room }
     ensures { RanSays room text.now cursor store.old start store.new result }
 {
     let mut c = cursor;
     let mut p = start;
-    loop {
-        let line = c.line;
-        let kind = kind_at(text, c.at);
-        let Kind::Resolve = kind else {
-            return Ran::At(c, p);
+    while let Some(step) = resolve_line(text, c.at) {
+        let (first, second) = (step.first as usize, step.second as usize);
+        p = resolve_step(store, p, room, c.line, first, second, step.variable)?;
+        c = Cursor {
+            at: c.at + RESOLVE_BYTES,
+            line: c.line + 1,
         };
-        let resolve = resolve_at(text, c.at);
-        let Resolve::Of(first, second, variable) = resolve else {
-            return Ran::At(c, p);
-        };
-        let stepped = resolve_step(
-            store,
-            p,
-            room,
-            line,
-            first as usize,
-            second as usize,
-            variable,
-        );
-        match stepped {
-            Stepped::Done(q) => {
-                c = Cursor {
-                    at: c.at + RESOLVE_BYTES,
-                    line: line + 1,
-                };
-                p = q;
-            }
-            Stepped::Refused(r) => return Ran::Refused(r),
-        }
     }
+    Ok((c, p))
 }
 
 // The lines from a cursor on: resolves in a row, then a line of any kind, and so on.
@@ -115,26 +75,18 @@ pub fn replay(
     store: &mut [u16],
     start: Progress,
     room: usize,
-) -> Stepped
+) -> Result<Progress, Refusal>
     requires { Inside text.now cursor × Within store.old start room }
     ensures { (s : State) → Tracks store.old start s → Says room (model.replay room s (from text.now cursor) cursor.line) store.new result }
 {
     let mut c = cursor;
     let mut p = start;
     loop {
-        let ran = run_resolves(text, c, store, p, room);
-        let Ran::At(d, q) = ran else {
-            return stopped(ran);
+        let (d, q) = run_resolves(text, c, store, p, room)?;
+        let Some((frame, next)) = read_line(text, d)? else {
+            return Ok(q);
         };
-        let got = read_line(text, d);
-        let Line::Read(frame, next) = got else {
-            return ended(got, q);
-        };
-        let stepped = frame_step(store, q, room, d.line, frame);
-        let Stepped::Done(after) = stepped else {
-            return stepped;
-        };
+        p = frame_step(store, q, room, d.line, frame)?;
         c = next;
-        p = after;
     }
 }

@@ -6,43 +6,27 @@ ghost use Rattle.checker.specs.Verdicts.{VerdictSays};
 use crate::replay::replay;
 use clause::Clause;
 use miter::begin::begin;
-use netlist::{Both, read_both};
-use refusal::Refusal;
-use steps::Stepped;
+use netlist::read_both;
+use refusal::{Reason, Refusal};
+use steps::Progress;
 
 // How many clauses a store of so many numbers holds.
 fn capacity(numbers: usize) -> usize
     ensures { result ≡ model.capacity numbers }
 {
-    let whole = numbers / Clause::WIDTH;
-    if Clause::MOST < whole {
-        return Clause::MOST;
-    }
-    whole
+    (numbers / Clause::WIDTH).min(Clause::MOST)
 }
 
 // The verdict, with the clauses left in the store.
-pub fn verdict(text: &[u8], store: &mut [u16]) -> Stepped
+pub fn verdict(text: &[u8], store: &mut [u16]) -> Result<Progress, Refusal>
     ensures { VerdictSays (model.check text.now (length store.old)) store.new result }
 {
     let room = capacity(store.len());
-    let lists = read_both(text);
-    let Both::Paired(pair) = lists else {
-        return Stepped::Refused(lists.refusal());
-    };
-    let begun = begin(text, pair, store, room);
-    let Stepped::Done(start) = begun else {
-        return begun;
-    };
-    let replayed = replay(text, pair.next, store, start, room);
-    let Stepped::Done(p) = replayed else {
-        return replayed;
-    };
+    let pair = read_both(text)?;
+    let start = begin(text, pair, store, room)?;
+    let p = replay(text, pair.next, store, start, room)?;
     if !p.empty {
-        return Stepped::Refused(Refusal {
-            number: Refusal::EMPTY,
-            line: 0,
-        });
+        return Err(Reason::Empty.at(0));
     }
-    Stepped::Done(p)
+    Ok(p)
 }

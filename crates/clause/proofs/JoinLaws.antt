@@ -1,23 +1,26 @@
 -- The join of two copies, turn by turn. The lowest of two heads is the head of the join, and behind it the join goes on with what is left; so
 -- after k turns the array has the first k literals of the join (`Joining`), also where the join ended before.
-use Prim.Native.Nat.{ℕ, zero, suc, ◌+◌, ◌-◌, ◌<◌, ◌≤◌}
+use Prim.Native.Nat.{ℕ, zero, suc, ◌+◌, ◌<◌, ◌≤◌, min}
+use native.Mathlib.Nat.{min-eq_left, min-eq_right}
+use mir.Val.{bool_byte}
+use lib.Dec.{leb}
 use mathlib.Core.Path.{◌≡◌, refl, sym, ap, ◌∙◌}
 use mathlib.Core.Bool.{true, false, and-false}
 use mathlib.Core.List.{List, [], ◌∷◌}
 use native.Mathlib.Numerals.{add-one}
 use native.Mathlib.Omega.{arith}
-use borrow.Author.Tests.{lt-leb}
-use lib.ListN.{length, take, drop, set}
-use lib.Seq.{drop-drop, take_all}
+use borrow.Author.Tests.{lt-leb, le-leb}
+use lib.ListN.{length, get_or, take, drop, set}
+use lib.Seq.{drop-drop, take_all, length-take-le, get_or-set_same, get_or-set_other}
 use Rattle.model.specs.Limits.{clause_width}
-use Rattle.model.specs.Answers.{Answer, guard}
-use Rattle.model.specs.Answers.Answer.{refused}
+use Rattle.model.specs.Answers.{guard}
+use Rattle.model.specs.Answers.Answer.{ok, refused}
 use Rattle.model.specs.Clauses.{Clause, positive, negative, holds, join, resolvent}
-use Rattle.clause.specs.Sets.{literal_bound, head_of, Rising, filled, literals_of, Holds, fitted, resolve_of, outcome_of, Answers}
-use Rattle.clause.specs.declared.resolution.Outcome.{Outcome}
-use Rattle.clause.specs.declared.resolution.Resolved.{Resolved}
+use Rattle.laws.specs.Bools.{below_or_at}
+use Rattle.clause.specs.Places.{literal_bound, head_of, filled}
+use Rattle.clause.specs.Sets.{Rising, fitted, resolve_of}
 use Rattle.clause.proofs.SetLaws.{by_order, head_below, join_left, join_right, join_both, rising_join}
-use Rattle.clause.proofs.PlaceLaws.{head_most, rising_from, filled_next, holds_own}
+use Rattle.clause.proofs.PlaceLaws.{head_most, rising_from, filled_next, filled_front, Ends}
 
 -- ---- a turn
 
@@ -28,6 +31,15 @@ Least x y lowest = (x ≤ y → lowest ≡ x) × (y < x → lowest ≡ y)
 -- how far a turn goes where x stands: past it, if it is at most y
 abbrev pub Goes : ℕ → ℕ → ℕ → Type 0
 Goes x y p = (x ≤ y → p ≡ 1) × (y < x → p ≡ 0)
+
+pub least_min : {x y lowest : ℕ} → lowest ≡ min x y → Least x y lowest
+least_min e = (λ h. e ∙ min-eq_left h, λ h. e ∙ min-eq_right (omega arith))
+
+pub goes_past : {x y p : ℕ} → p ≡ bool_byte (leb x y) → Goes x y p
+goes_past {x} {y} {p} e = (λ h. e ∙ ap bool_byte (le-leb x y h), λ h. e ∙ ap bool_byte (lt-leb x y h))
+
+pub goes_one : {x y p : ℕ} → Goes x y p → p ≤ 1
+goes_one {x} {y} {p} g = by_order x y (λ o. omega (arith, g.0 (omega arith))) (λ o. omega (arith, g.1 o)) (λ e. omega (arith, g.0 (omega arith)))
 
 -- a join begins with this number, and is this behind it
 record Begins (c : Clause) (x : ℕ) (rest : Clause) : Type 0 where
@@ -59,14 +71,6 @@ turn_begins c d lowest p q r s t g h =
 
 -- ---- a count of literals
 
--- one place more of a clause has one literal more, if it has one
-taken_more : (k t : ℕ) (c : Clause) → Rising c → Goes (head_of (drop k c)) (literal_bound - 1) t
-    → length (take k c) + t ≡ length (take (suc k) c)
-taken_more zero t [] r h = omega (arith, h.1 (omega arith))
-taken_more zero t (x ∷ c) r h = omega (arith, h.0 (omega (arith, head_below x c r)))
-taken_more (suc k) t [] r h = omega (arith, h.1 (omega arith))
-taken_more (suc k) t (x ∷ c) r h = omega (arith, taken_more k t c r.1 h)
-
 -- the bound stands at a place just where the clause has ended
 ended : (k : ℕ) (c : Clause) → Rising c → head_of (drop k c) ≡ literal_bound → length c ≤ k
 ended k [] r e = omega arith
@@ -78,6 +82,33 @@ not_ended zero [] h = absurd (h refl)
 not_ended (suc k) [] h = absurd (h refl)
 not_ended zero (x ∷ c) h = omega arith
 not_ended (suc k) (x ∷ c) h = omega (arith, not_ended k c h)
+
+-- the count after place k: all places up to there, if that has a literal
+abbrev pub Counts : ℕ → ℕ → ℕ → ℕ → Type 0
+Counts k lowest len next = (lowest < literal_bound → next ≡ k + 1) × (literal_bound ≤ lowest → next ≡ len)
+
+pub counted_most : {k lowest len next : ℕ} → Counts k lowest len next → len ≤ k → next ≤ k + 1
+counted_most {k} {lowest} {len} {next} c h =
+    by_order lowest literal_bound (λ o. omega (arith, c.0 o)) (λ o. omega (arith, c.1 (omega arith))) (λ e. omega (arith, c.1 (omega arith)))
+
+-- behind the places that count each has the bound, whatever was put at place k
+pub ends_turn : (literals : List ℕ) (k len : ℕ) {lowest next : ℕ} → k < clause_width → len ≤ k → lowest ≤ literal_bound → length literals ≡ clause_width
+    → Ends clause_width len literals → Counts k lowest len next → Ends clause_width next (set literals k lowest)
+ends_turn literals k len {lowest} {next} m n t e h c j o p =
+    by_order j k
+    (λ a. kept j (λ d. omega arith) (by_order lowest literal_bound (λ b. omega (arith, c.0 b)) (λ b. omega arith) (λ b. omega (arith, c.1 (omega arith)))) p)
+    (λ a. kept j (λ d. omega arith) (omega arith) p)
+    (λ d. rw d (get_or-set_same literals k lowest 0 (omega arith) ∙ by_order lowest literal_bound (λ b. absurd (omega (arith, c.0 b))) (λ b. absurd (omega arith)) (λ b. b)))
+  where
+    kept : (i : ℕ) → (i ≡ k → ⊥) → len ≤ i → i < clause_width → get_or (set literals k lowest) i 0 ≡ literal_bound
+    kept i d l q = get_or-set_other literals k i lowest 0 d ∙ h i l q
+
+taken_more : (k len next : ℕ) (c : Clause) → Rising c → Counts k (head_of (drop k c)) len next → len ≡ length (take k c) → next ≡ length (take (suc k) c)
+taken_more k len next c r h e =
+    let most : head_of (drop k c) ≤ literal_bound = head_most (drop k c) (rising_from k c r) in
+    below_or_at (head_of (drop k c)) literal_bound (omega arith)
+    (λ o. let there : k < length c = not_ended k c (λ d. omega arith) in omega (arith, h.0 o, length-take-le (suc k) c there))
+    (λ d. let gone : length c ≤ k = ended k c r d in h.1 (omega arith) ∙ e ∙ ap length (take_all k c gone ∙ sym (take_all (suc k) c (omega arith))))
 
 -- ---- the join
 
@@ -102,29 +133,31 @@ module _ {c d : Clause} {literals : List ℕ} {len i j k x y lowest : ℕ} (r : 
       (λ o. (begins 0 1 (λ z. absurd (omega arith), λ _. refl) (λ _. refl, λ z. absurd (omega arith))).head)
       (λ o. (begins 1 1 (λ _. refl, λ z. absurd (omega arith)) (λ _. refl, λ z. absurd (omega arith))).head)
 
-  pub joining_turn : (p q t : ℕ) → Goes x y p → Goes y x q → Goes lowest (literal_bound - 1) t → k < clause_width
-      → Joining c d (set literals k lowest) (len + t) (i + p) (j + q) (k + 1)
-  joining_turn p q t g₁ g₂ count n =
+  pub joining_turn : (p q next : ℕ) → Goes x y p → Goes y x q → Counts k lowest len next → k < clause_width
+      → Joining c d (set literals k lowest) next (i + p) (j + q) (k + 1)
+  joining_turn p q next g₁ g₂ count n =
       record {
         left = rw (← drop-drop p i c, ← drop-drop q j d, ← drop-drop 1 k (join c d)) (begins p q g₁ g₂).behind;
         done = rw (h.done, at_place, add-one k) (filled_next clause_width k (join c d) n);
-        size = rw (h.size, add-one k) (taken_more k t (join c d) (rising_join c d r s) (rw at_place at count));
+        size = rw add-one (taken_more k len next (join c d) (rising_join c d r s) (rw at_place at count) h.size);
       }
 
-  pub joining_end : lowest ≡ literal_bound → k ≤ clause_width → (length (join c d) ≤ clause_width) × (len ≡ length (join c d)) × (literals ≡ filled clause_width (join c d))
-  joining_end z n =
+  -- where both have ended within k turns, the literals that count are the join, and it has room
+  pub joining_end : lowest ≡ literal_bound → k ≤ clause_width → (line : ℕ) → ok (take len literals) ≡ fitted (join c d) line
+  unfolding fitted guard
+  joining_end z n line =
       let m : length (join c d) ≤ k = ended k (join c d) (rising_join c d r s) (sym at_place ∙ z) in
       let w : take k (join c d) ≡ join c d = take_all k (join c d) m in
-      (omega arith, h.size ∙ ap length w, h.done ∙ ap (filled clause_width) w)
+      rw (le-leb (length (join c d)) clause_width (omega arith), h.size, h.done, w)
+      (ap ok (filled_front clause_width (join c d) (omega arith)))
 
-  pub joining_long : (lowest ≡ literal_bound → ⊥) → k < length (join c d)
-  joining_long z = not_ended k (join c d) (λ g. z (at_place ∙ g))
+  pub joining_long : (lowest ≡ literal_bound → ⊥) → clause_width ≤ k → (line : ℕ) → refused 11 line ≡ fitted (join c d) line
+  unfolding fitted guard
+  joining_long z n line =
+      let m : k < length (join c d) = not_ended k (join c d) (λ g. z (at_place ∙ g)) in
+      rw (lt-leb (length (join c d)) clause_width (omega arith))
 
 -- ---- what a step answers
-
-pub too_long : (c : Clause) (line : ℕ) → clause_width < length c → fitted c line ≡ refused 11 line
-unfolding fitted guard
-too_long c line h = rw (lt-leb (length c) clause_width h)
 
 module _ (v : ℕ) (a b : Clause) (line : ℕ) where
   pub no_first : holds (positive v) a ≡ false → resolve_of v a b line ≡ refused 10 line
@@ -138,12 +171,3 @@ module _ (v : ℕ) (a b : Clause) (line : ℕ) where
   pub both_there : holds (positive v) a ≡ true → holds (negative v) b ≡ true → fitted (resolvent v a b) line ≡ resolve_of v a b line
   unfolding resolve_of guard
   both_there e f = rw (e, f)
-
--- an outcome that is a refusal
-pub refuses : {a : ℕ → Answer Clause} (r : Resolved) (o : Outcome) (number : ℕ) → ((c : Clause) (line : ℕ) → outcome_of o c line ≡ refused number line)
-    → (r.outcome ≡ o) × Holds r.clause [] → ((line : ℕ) → a line ≡ refused number line) → Answers r a
-refuses r o number f h g =
-    record {
-      held = holds_own h.1;
-      same = λ line. ap (λ (k : Outcome). outcome_of k (literals_of r.clause) line) h.0 ∙ f _ line ∙ sym (g line);
-    }

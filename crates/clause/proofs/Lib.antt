@@ -2,3 +2,4 @@ pub mod SetLaws
 pub mod StoreLaws
 pub mod PlaceLaws
 pub mod JoinLaws
+pub mod InsertLaws

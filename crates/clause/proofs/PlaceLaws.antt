@@ -1,16 +1,17 @@
 -- Places of clauses. An array that is filled place by place has the clause up to there, then the bound. Below a literal that a rising clause
 -- holds, the clause without it has the same literals at the same places, and from it on those of the next places.
 use Prim.Native.Nat.{ℕ, zero, suc, ◌<◌, ◌≤◌}
-use mathlib.Core.Path.{◌≡◌, refl, sym, ap, ◌∙◌, subst}
+use mathlib.Core.Path.{◌≡◌, refl, sym, ap, ap₂, ◌∙◌, subst}
 use mathlib.Core.Bool.{true, true≢false}
 use mathlib.Core.List.{List, [], ◌∷◌}
 use native.Mathlib.Omega.{arith}
 use borrow.Author.Tests.{eq-eqb, ne_eqb}
 use lib.ListN.{length, take, drop, get_or, set}
 use lib.Seq.{take-nil, drop-nil}
+use Rattle.model.specs.Limits.{clause_width}
 use Rattle.model.specs.Clauses.{Clause, holds, without}
-use Rattle.clause.specs.Sets.{literal_bound, head_of, Rising, filled, literals_of, Holds}
-use Rattle.clause.specs.declared.Clause as struct
+use Rattle.clause.specs.Places.{literal_bound, head_of, filled, Whole}
+use Rattle.clause.specs.Sets.{Rising}
 use Rattle.clause.proofs.SetLaws.{by_order, head_below, holds_more, not_below, without_none}
 
 -- ---- heads
@@ -51,9 +52,29 @@ filled_front n [] h = refl
 filled_front zero (x ∷ c) h = absurd (omega arith)
 filled_front (suc n) (x ∷ c) h = ap (λ (t : Clause). x ∷ t) (filled_front n c (omega arith))
 
--- a struct that holds a clause holds its own literals
-pub holds_own : {c : struct.Clause} {l : Clause} → Holds c l → Holds c (literals_of c)
-holds_own {c} h = subst (Holds c) (sym h.same) h
+-- a place of the struct that is seen as this clause
+pub struct_at : (literals : List ℕ) (len : ℕ) (c : Clause) (k : ℕ) → Whole literals len → take len literals ≡ c → k < clause_width
+    → get_or literals k 0 ≡ head_of (drop k c)
+struct_at literals len c k w e h =
+    ap (λ (t : List ℕ). get_or t k 0) (w.behind ∙ ap (filled clause_width) e) ∙ filled_at clause_width k c h
+
+-- ---- structs
+
+-- from a place on each has the bound
+abbrev pub Ends : ℕ → ℕ → List ℕ → Type 0
+Ends n len literals = (k : ℕ) → len ≤ k → k < n → get_or literals k 0 ≡ literal_bound
+
+behind_ends : (n len : ℕ) (literals : List ℕ) → length literals ≡ n → Ends n len literals → literals ≡ filled n (take len literals)
+behind_ends zero zero [] e h = refl
+behind_ends zero (suc len) [] e h = refl
+behind_ends zero len (x ∷ xs) e h = absurd (omega arith)
+behind_ends (suc n) len [] e h = absurd (omega arith)
+behind_ends (suc n) zero (x ∷ xs) e h = ap₂ ◌∷◌ (h 0 (omega arith) (omega arith)) (behind_ends n zero xs (omega arith) (λ k l m. h (suc k) (omega arith) (omega arith)))
+behind_ends (suc n) (suc len) (x ∷ xs) e h =
+    ap (λ (t : List ℕ). x ∷ t) (behind_ends n len xs (omega arith) (λ k l m. h (suc k) (omega arith) (omega arith)))
+
+pub whole_ends : {literals : List ℕ} {len : ℕ} → len ≤ clause_width → length literals ≡ clause_width → Ends clause_width len literals → Whole literals len
+whole_ends {literals} {len} l e h = record { room = l; behind = behind_ends clause_width len literals e h }
 
 -- ---- a clause without a literal that it holds
 

@@ -1,16 +1,18 @@
 -- Laws of clauses as rising lists. A literal below all others comes out first of a join, from whichever side, so a merge of rising lists is
 -- their join; what is taken out or put in leaves a list rising.
-use Prim.Native.Nat.{ℕ, ◌<◌, ◌≤◌}
+use Prim.Native.Nat.{ℕ, ◌+◌, ◌<◌, ◌≤◌}
 use mathlib.Core.Path.{◌≡◌, refl, sym, ap, ◌∙◌}
-use mathlib.Core.Bool.{Bool, true, false}
-use mathlib.Core.List.{List, [], ◌∷◌}
+use mathlib.Core.Bool.{Bool, true, false, ◌||◌}
+use mathlib.Core.List.{List, [], ◌∷◌, ◌++◌}
 use native.Mathlib.Omega.{arith}
 use lib.Dec.{eqb, ltb}
 use lib.ListN.{length, drop}
 use borrow.Author.Tests.{lt-ltb, le-ltb, eq-eqb, ne_eqb, ltb-true, ltb-false, eqb-true, eqb-false}
 use Rattle.model.specs.Clauses.{Clause, insert, join, clause_of, without, holds, positive, negative, resolvent}
+use Rattle.std.proofs.lemmas.Bool.Decides.{nat_tests}
 use Rattle.laws.specs.Bools.{by_cond}
-use Rattle.clause.specs.Sets.{literal_bound, head_of, Rising}
+use Rattle.clause.specs.Places.{literal_bound, head_of}
+use Rattle.clause.specs.Sets.{Rising, Above, Ascending}
 
 -- ---- rising
 
@@ -24,15 +26,14 @@ pub holds_more : (l x : ℕ) (c : Clause) → (x ≡ l → ⊥) → holds l (x �
 unfolding holds
 holds_more l x c h = rw (ne_eqb l x (λ e. h (sym e)))
 
-pub holds_first : (l : ℕ) (c : Clause) → head_of c ≡ l → l < literal_bound → holds l c ≡ true
-unfolding holds
-holds_first l [] e h = absurd (omega arith)
-holds_first l (x ∷ c) e h = rw (eq-eqb l x (sym e))
+eqb_sym : (a b : ℕ) → eqb a b ≡ eqb b a
+eqb_sym a b = grind (arith, nat_tests)
 
-pub holds_rest : (l : ℕ) (c : Clause) → (head_of c ≡ l → ⊥) → holds l c ≡ holds l (drop 1 c)
+-- a clause holds a literal where it stands first, or where the rest holds it
+pub holds_here : (l x : ℕ) (c : Clause) → x ≡ head_of c → l < literal_bound → holds l c ≡ eqb x l || holds l (drop 1 c)
 unfolding holds
-holds_rest l [] h = refl
-holds_rest l (x ∷ c) h = holds_more l x c h
+holds_here l x [] e h = rw (ne_eqb x l (λ d. omega arith))
+holds_here l x (y ∷ c) e h = rw e (ap (λ b. b || holds l c) (eqb_sym l y))
 
 -- a literal below all of a rising clause is not in it, nor is one from the bound on
 pub not_below : (l : ℕ) (c : Clause) → Rising c → l < head_of c → holds l c ≡ false
@@ -72,18 +73,22 @@ length_without l (x ∷ c) =
 
 -- ---- putting in
 
-insert_later : (x y : ℕ) (c : Clause) → x < y → insert y (x ∷ c) ≡ x ∷ insert y c
+pub insert_later : (x y : ℕ) (c : Clause) → x < y → insert y (x ∷ c) ≡ x ∷ insert y c
 unfolding insert
 insert_later x y c h = rw (le-ltb y x (omega arith), ne_eqb y x (λ e. omega arith))
 
-insert_first : (x : ℕ) (c : Clause) → x < head_of c → insert x c ≡ x ∷ c
+pub insert_first : (x : ℕ) (c : Clause) → Above x c → insert x c ≡ x ∷ c
 unfolding insert
 insert_first x [] h = refl
 insert_first x (y ∷ c) h = rw (lt-ltb x y h)
 
-insert_again : (x : ℕ) (c : Clause) → insert x (x ∷ c) ≡ x ∷ c
+pub insert_again : (x : ℕ) (c : Clause) → insert x (x ∷ c) ≡ x ∷ c
 unfolding insert
 insert_again x c = rw (le-ltb x x (omega arith), eq-eqb x x refl)
+
+above_head : (x : ℕ) (c : Clause) → x < head_of c → Above x c
+above_head x [] h = tt
+above_head x (y ∷ c) h = h
 
 -- the first of a join: from the left, from the right, from both
 pub join_left : (x : ℕ) (a b : Clause) → x < head_of b → Rising b → join (x ∷ a) b ≡ x ∷ join a b
@@ -93,25 +98,13 @@ join_left x a (y ∷ b) h r = rw (insert_later x y a h) (join_left x (insert y a
 
 pub join_right : (y : ℕ) (a b : Clause) → y < head_of a → Rising (y ∷ b) → join a (y ∷ b) ≡ y ∷ join a b
 unfolding join
-join_right y a b h r = rw (insert_first y a h) (join_left y a b r.0 r.1)
+join_right y a b h r = rw (insert_first y a (above_head y a h)) (join_left y a b r.0 r.1)
 
 pub join_both : (x : ℕ) (a b : Clause) → Rising (x ∷ b) → join (x ∷ a) (x ∷ b) ≡ x ∷ join a b
 unfolding join
 join_both x a b r = rw (insert_again x a) (join_left x a b r.0 r.1)
 
--- ---- clauses of two and three literals
-
-pub two_rising : (a b : ℕ) → a < b → clause_of (a ∷ b ∷ []) ≡ a ∷ b ∷ []
-unfolding join insert
-two_rising a b h = rw (le-ltb b a (omega arith), ne_eqb b a (λ e. omega arith))
-
-pub two_falling : (a b : ℕ) → b < a → clause_of (a ∷ b ∷ []) ≡ b ∷ a ∷ []
-unfolding join insert
-two_falling a b h = rw (lt-ltb b a h)
-
-pub two_equal : (a b : ℕ) → a ≡ b → clause_of (a ∷ b ∷ []) ≡ clause_of (a ∷ [])
-unfolding join insert
-two_equal a b h = rw (le-ltb b a (omega arith), eq-eqb b a (sym h))
+-- ---- order
 
 -- two numbers in each of three orders
 pub by_order : {P : Type 0} (a b : ℕ) → (a < b → P) → (b < a → P) → (a ≡ b → P) → P
@@ -121,67 +114,6 @@ by_order {P} a b f g h = go (ltb a b) (eqb a b) refl refl
     go true u e d = f (ltb-true a b e)
     go false true e d = h (eqb-true a b d)
     go false false e d = let n : a ≡ b → ⊥ = eqb-false a b d in g (omega (arith, ltb-false a b e))
-
--- a third literal that is one of two different ones
-first_again : (a b : ℕ) → (a ≡ b → ⊥) → insert a (clause_of (a ∷ b ∷ [])) ≡ clause_of (a ∷ b ∷ [])
-first_again a b n = by_order a b (λ h. rw (two_rising a b h) (insert_again a (b ∷ [])))
-    (λ h. rw (two_falling a b h) (insert_later b a (a ∷ []) h ∙ ap (λ (t : Clause). b ∷ t) (insert_again a [])))
-    (λ e. absurd (n e))
-
-second_again : (a b : ℕ) → (a ≡ b → ⊥) → insert b (clause_of (a ∷ b ∷ [])) ≡ clause_of (a ∷ b ∷ [])
-second_again a b n = by_order a b (λ h. rw (two_rising a b h) (insert_later a b (b ∷ []) h ∙ ap (λ (t : Clause). a ∷ t) (insert_again b [])))
-    (λ h. rw (two_falling a b h) (insert_again b (a ∷ [])))
-    (λ e. absurd (n e))
-
-pub three_first_two : (a b c : ℕ) → a ≡ b → clause_of (a ∷ b ∷ c ∷ []) ≡ clause_of (a ∷ c ∷ [])
-unfolding join insert
-three_first_two a b c h = rw (le-ltb b a (omega arith), eq-eqb b a (sym h))
-
-pub three_outer_two : (a b c : ℕ) → (a ≡ b → ⊥) → a ≡ c → clause_of (a ∷ b ∷ c ∷ []) ≡ clause_of (a ∷ b ∷ [])
-unfolding join
-three_outer_two a b c n h = rw (← h) (first_again a b n)
-
-pub three_last_two : (a b c : ℕ) → (a ≡ b → ⊥) → b ≡ c → clause_of (a ∷ b ∷ c ∷ []) ≡ clause_of (a ∷ b ∷ [])
-unfolding join
-three_last_two a b c n h = rw (← h) (second_again a b n)
-
--- the third of three different literals goes behind, between or before the two lower ones
-module _ (x y c : ℕ) (h : x < y) where
-  behind : y < c → insert c (x ∷ y ∷ []) ≡ x ∷ y ∷ c ∷ []
-  unfolding insert
-  behind k = rw (le-ltb c x (omega arith), ne_eqb c x (λ e. omega arith), le-ltb c y (omega arith), ne_eqb c y (λ e. omega arith))
-
-  between : x < c → c < y → insert c (x ∷ y ∷ []) ≡ x ∷ c ∷ y ∷ []
-  unfolding insert
-  between k l = rw (le-ltb c x (omega arith), ne_eqb c x (λ e. omega arith), lt-ltb c y l)
-
-  before : c < x → insert c (x ∷ y ∷ []) ≡ c ∷ x ∷ y ∷ []
-  unfolding insert
-  before k = rw (lt-ltb c x k)
-
-pub three_abc : (a b c : ℕ) → a < b → b < c → clause_of (a ∷ b ∷ c ∷ []) ≡ a ∷ b ∷ c ∷ []
-unfolding join
-three_abc a b c h k = ap (insert c) (two_rising a b h) ∙ behind a b c h k
-
-pub three_acb : (a b c : ℕ) → a < c → c < b → clause_of (a ∷ b ∷ c ∷ []) ≡ a ∷ c ∷ b ∷ []
-unfolding join
-three_acb a b c h k = ap (insert c) (two_rising a b (omega arith)) ∙ between a b c (omega arith) h k
-
-pub three_cab : (a b c : ℕ) → c < a → a < b → clause_of (a ∷ b ∷ c ∷ []) ≡ c ∷ a ∷ b ∷ []
-unfolding join
-three_cab a b c h k = ap (insert c) (two_rising a b k) ∙ before a b c k h
-
-pub three_bac : (a b c : ℕ) → b < a → a < c → clause_of (a ∷ b ∷ c ∷ []) ≡ b ∷ a ∷ c ∷ []
-unfolding join
-three_bac a b c h k = ap (insert c) (two_falling a b h) ∙ behind b a c h k
-
-pub three_bca : (a b c : ℕ) → b < c → c < a → clause_of (a ∷ b ∷ c ∷ []) ≡ b ∷ c ∷ a ∷ []
-unfolding join
-three_bca a b c h k = ap (insert c) (two_falling a b (omega arith)) ∙ between b a c (omega arith) h k
-
-pub three_cba : (a b c : ℕ) → c < b → b < a → clause_of (a ∷ b ∷ c ∷ []) ≡ c ∷ b ∷ a ∷ []
-unfolding join
-three_cba a b c h k = ap (insert c) (two_falling a b k) ∙ before b a c k h
 
 -- ---- a clause is rising
 
@@ -201,6 +133,50 @@ rising_insert l (x ∷ c) h r =
     (λ d.
     let k : x < l = omega (arith, ltb-false l x e, eqb-false l x d) in
     (head_insert x l c k r.0, rising_insert l c h r.1)))
+
+-- the same, whatever the last literal is
+above_insert : (k l : ℕ) (c : Clause) → k < l → Above k c → Above k (insert l c)
+unfolding insert
+above_insert k l [] h g = h
+above_insert k l (x ∷ c) h g =
+    by_cond (Above k) (ltb l x) (λ e. h) (λ e. by_cond (Above k) (eqb l x) (λ e. g) (λ e. g))
+
+ascending_insert : (l : ℕ) (c : Clause) → Ascending c → Ascending (insert l c)
+unfolding insert
+ascending_insert l [] a = (tt, tt)
+ascending_insert l (x ∷ c) a =
+    by_cond Ascending (ltb l x) (λ e. (ltb-true l x e, a))
+    (λ e. by_cond Ascending (eqb l x) (λ e. a)
+    (λ d.
+    let k : x < l = omega (arith, ltb-false l x e, eqb-false l x d) in
+    (above_insert x l c k a.0, ascending_insert l c a.1)))
+
+put_ascending : (c : Clause) (ls : List ℕ) → Ascending c → Ascending (join c ls)
+unfolding join
+put_ascending c [] a = a
+put_ascending c (l ∷ ls) a = put_ascending (insert l c) ls (ascending_insert l c a)
+
+pub ascending_clause : (ls : List ℕ) → Ascending (clause_of ls)
+ascending_clause ls = put_ascending [] ls tt
+
+-- ---- one literal more
+
+length_insert : (l : ℕ) (c : Clause) → length (insert l c) ≤ length c + 1
+unfolding insert
+length_insert l [] = omega arith
+length_insert l (x ∷ c) =
+    by_cond (λ (d : Clause). length d ≤ length (x ∷ c) + 1) (ltb l x) (λ e. omega arith)
+    (λ e. by_cond (λ (d : Clause). length d ≤ length (x ∷ c) + 1) (eqb l x) (λ e. omega arith) (λ e. omega (arith, length_insert l c)))
+
+pub length_join : (c : Clause) (ls : List ℕ) → length (join c ls) ≤ length c + length ls
+unfolding join
+length_join c [] = omega arith
+length_join c (l ∷ ls) = omega (arith, length_join (insert l c) ls, length_insert l c)
+
+pub join_more : (c : Clause) (ls : List ℕ) (l : ℕ) → join c (ls ++ (l ∷ [])) ≡ insert l (join c ls)
+unfolding join
+join_more c [] l = refl
+join_more c (x ∷ ls) l = join_more (insert x c) ls l
 
 -- literals that the store can hold
 abbrev pub Small : List ℕ → Type 0

@@ -1,8 +1,7 @@
 -- Clauses in the store: what a stored clause has at each place, and a clause put there place by place.
 use Prim.Native.Nat.{ℕ, zero, suc, ◌+◌, ◌-◌, ◌%◌, ◌<◌, ◌≤◌}
-use mathlib.Core.Path.{◌≡◌, refl, sym}
+use mathlib.Core.Path.{◌≡◌, refl}
 use mathlib.Core.List.{List, [], ◌∷◌, ◌++◌, map}
-use native.Mathlib.Nat.{not-suc-le-zero, le_of_suc-le-suc}
 use native.Mathlib.Numerals.{add-one}
 use native.Mathlib.Omega.{arith}
 use lib.ListN.{length, drop, get_or, set, replicate, length-append, length-map, length-replicate}
@@ -10,7 +9,8 @@ use lib.Seq.{drop-nil, drop-cons, sets}
 use Rattle.model.specs.Limits.{clause_width}
 use Rattle.model.specs.Clauses.{Clause}
 use Rattle.model.specs.Checker.{stored}
-use Rattle.clause.specs.Sets.{literal_bound, head_of, Rising}
+use Rattle.clause.specs.Places.{head_of}
+use Rattle.clause.specs.Sets.{Rising}
 use Rattle.clause.proofs.SetLaws.{head_below}
 
 pub stored_length : (c : Clause) → length c ≤ clause_width → length (stored c) ≡ clause_width
@@ -27,31 +27,6 @@ zeros_at zero zero = refl
 zeros_at zero (suc i) = refl
 zeros_at (suc n) zero = refl
 zeros_at (suc n) (suc i) = zeros_at n i
-
--- ---- what stands for a literal
-
-some_at : (n i : ℕ) (c : Clause) → i < length c → get_or c i 0 + 1 ≡ get_or (map suc c ++ replicate n 0) i 0
-some_at n zero [] h = absurd (not-suc-le-zero h)
-some_at n zero (x ∷ c) h = add-one x
-some_at n (suc i) [] h = absurd (not-suc-le-zero h)
-some_at n (suc i) (x ∷ c) h = some_at n i c (le_of_suc-le-suc h)
-
-none_at : (n i : ℕ) (c : Clause) → length c ≤ i → 0 ≡ get_or (map suc c ++ replicate n 0) i 0
-none_at n i [] h = sym (zeros_at n i)
-none_at n zero (x ∷ c) h = absurd (not-suc-le-zero h)
-none_at n (suc i) (x ∷ c) h = none_at n i c (le_of_suc-le-suc h)
-
-pub entry_some : (i : ℕ) (c : Clause) → i < length c → get_or c i 0 + 1 ≡ get_or (stored c) i 0
-entry_some i c h = some_at (clause_width - length c) i c h
-
-pub entry_none : (i : ℕ) (c : Clause) → length c ≤ i → 0 ≡ get_or (stored c) i 0
-entry_none i c h = none_at (clause_width - length c) i c h
-
-pub literal_below : (i : ℕ) (c : Clause) → i < length c → Rising c → get_or c i 0 < literal_bound
-literal_below zero [] h r = absurd (not-suc-le-zero h)
-literal_below zero (x ∷ c) h r = head_below x c r
-literal_below (suc i) [] h r = absurd (not-suc-le-zero h)
-literal_below (suc i) (x ∷ c) h r = literal_below i c (le_of_suc-le-suc h) r.1
 
 -- the number at a place is the literal there plus one in 16 bits, so that the bound past the end gives 0
 pub number_at : (c : Clause) (i : ℕ) → Rising c → get_or (stored c) i 0 ≡ (head_of (drop i c) + 1) % 65536

@@ -6,17 +6,39 @@ pub mod gates; // the clauses that define an AND gate and an XOR gate
 pub mod resolution; // one resolution step on two clauses of the store
 pub mod store; // clauses put into the store
 
-ghost use Rattle.std.specs.Prelude.{[], ◌∷◌};
-ghost use Rattle.model.specs.Clauses.{clause_of};
-ghost use Rattle.clause.specs.Sets.{Holds};
+ghost use Rattle.std.specs.Prelude.{◌≡◌, ◌<◌, ◌≤◌, length};
+ghost use Rattle.model.specs.Limits.{clause_width};
+ghost use Rattle.model.specs.Clauses.{clause_of, insert, is_empty};
+ghost use Rattle.clause.specs.Sets.{Ascending, codes};
 
 use literal::Literal;
+use std::marker::Model;
 
 // The literals in use are the first `len`; behind them stands Literal::BOUND.
 #[derive(Clone, Copy)]
 pub struct Clause {
-    pub literals: [u16; Clause::WIDTH],
-    pub len: usize,
+    literals: [u16; Clause::WIDTH],
+    len: usize,
+}
+
+// Contracts see the literals in use.
+impl Model for Clause {
+    ghost use Rattle.std.specs.Prelude.{ℕ, List, length, take};
+    ghost use Rattle.model.specs.Limits.{clause_width};
+    ghost use Rattle.clause.specs.Places.{filled, Whole, same_literals, same_length};
+
+    ghost Value = { List ℕ };
+
+    ghost view = { λ c. take c.len c.literals };
+
+    ghost invariant = { λ c. Whole c.literals c.len };
+
+    ghost inverse = { λ l. record { literals = filled clause_width l; len = length l } };
+
+    ghost inverse_ok = { λ c h i. record {
+      literals = same_literals c.literals c.len h i;
+      len = same_length c.literals c.len h i;
+    } };
 }
 
 impl Clause {
@@ -26,79 +48,51 @@ impl Clause {
     // The most clauses of a store.
     pub const MOST: usize = 65535;
 
-    pub fn of_one(x: Literal) -> Clause
-        ensures { Holds result (clause_of (x.code ∷ [])) }
+    // The clause of literals in any order.
+    pub fn of<const N: usize>(literals: [Literal; N]) -> Clause
+        requires { N ≤ clause_width }
+        ensures { result ≡ clause_of (codes literals.entry) }
     {
-        let mut literals = [Literal::BOUND; Clause::WIDTH];
-        literals[0] = x.code;
-        Clause { literals, len: 1 }
+        let mut clause = Clause {
+            literals: [Literal::BOUND; Clause::WIDTH],
+            len: 0,
+        };
+        for l in literals {
+            clause.insert(l.code);
+        }
+        clause
     }
 
-    pub fn of_two(x: Literal, y: Literal) -> Clause
-        ensures { Holds result (clause_of (x.code ∷ y.code ∷ [])) }
+    pub fn len(self) -> usize
+        ensures { result ≡ length self }
     {
-        let a = x.code;
-        let b = y.code;
-        if a < b {
-            return rising_two(a, b);
-        }
-        if b < a {
-            return rising_two(b, a);
-        }
-        Clause::of_one(x)
+        let Clause { len, .. } = self;
+        len
     }
 
-    pub fn of_three(x: Literal, y: Literal, z: Literal) -> Clause
-        ensures { Holds result (clause_of (x.code ∷ y.code ∷ z.code ∷ [])) }
+    pub fn is_empty(self) -> bool
+        ensures { result ≡ is_empty self }
     {
-        let a = x.code;
-        let b = y.code;
-        let c = z.code;
-        if a == b {
-            return Clause::of_two(x, z);
-        }
-        if a == c {
-            return Clause::of_two(x, y);
-        }
-        if b == c {
-            return Clause::of_two(x, y);
-        }
-        if a < b {
-            if b < c {
-                return rising_three(a, b, c);
+        self.len == 0
+    }
+
+    // One literal more, if it is not there. Each place takes the lower of its own and the one that is carried along, by no branch: which is lower
+    // follows no pattern.
+    fn insert(&mut self, l: u16)
+        requires room { length self.old < clause_width }
+        requires ascending { Ascending self.old }
+        ensures { self.new ≡ insert l self.old }
+    {
+        let mut carried = l;
+        for i in 0..self.len {
+            let x = self.literals[i];
+            if x == l {
+                return;
             }
-            if a < c {
-                return rising_three(a, c, b);
-            }
-            return rising_three(c, a, b);
+            self.literals[i] = x.min(carried);
+            carried = x.max(carried);
         }
-        if a < c {
-            return rising_three(b, a, c);
-        }
-        if b < c {
-            return rising_three(b, c, a);
-        }
-        rising_three(c, b, a)
+        self.literals[self.len] = carried;
+        self.len += 1;
     }
-}
-
-// The clause of two literals that rise already.
-fn rising_two(a: u16, b: u16) -> Clause
-    ensures { Holds result (a ∷ b ∷ []) }
-{
-    let mut literals = [Literal::BOUND; Clause::WIDTH];
-    literals[0] = a;
-    literals[1] = b;
-    Clause { literals, len: 2 }
-}
-
-// The clause of three literals that rise already.
-fn rising_three(a: u16, b: u16, c: u16) -> Clause
-    ensures { Holds result (a ∷ b ∷ c ∷ []) }
-{
-    let mut literals = [Literal::BOUND; Clause::WIDTH];
-    literals[0] = a;
-    literals[1] = b;
-    literals[2] = c;
-    Clause { literals, len: 3 }
 }

@@ -1,30 +1,38 @@
-// Zeros in lent memory from a place on: bytes, 16-bit numbers and 64-bit words. Where the place lies behind the last, nothing changes; none of
-// the three asks anything of its caller.
+// Zeros in lent memory from a place on, whatever kind of number it is made of. Where the place lies behind the last, nothing changes; nothing is
+// asked of the caller.
 #![tactic(auto)]
 
-ghost use Rattle.std.specs.Prelude.{◌≡◌, ◌++◌, ◌-◌, length, take};
-ghost use Rattle.model.specs.Answers.{zeros};
+ghost use Rattle.std.specs.Prelude.{◌≡◌, ◌++◌, ◌-◌, length, take, replicate};
 
-pub fn clear_bytes(bytes: &mut [u8], from: usize)
-    ensures { bytes.new ≡ take from bytes.old ++ zeros (length bytes.old - from) }
-{
-    for at in from..bytes.len() {
-        bytes[at] = 0;
-    }
+// A kind of number that buffers are lent in.
+pub trait Number: Copy {
+    ghost ZERO: { Self };
+
+    const ZERO: Self;
 }
 
-pub fn clear_numbers(numbers: &mut [u16], from: usize)
-    ensures { numbers.new ≡ take from numbers.old ++ zeros (length numbers.old - from) }
+impl Number for u8 {
+    ghost ZERO = { 0 };
+
+    const ZERO: u8 = 0;
+}
+
+impl Number for u16 {
+    ghost ZERO = { 0 };
+
+    const ZERO: u16 = 0;
+}
+
+impl Number for u64 {
+    ghost ZERO = { 0 };
+
+    const ZERO: u64 = 0;
+}
+
+pub fn clear<T: Number>(numbers: &mut [T], from: usize)
+    ensures { numbers.new ≡ take from numbers.old ++ replicate (length numbers.old - from) T.ZERO }
 {
     for at in from..numbers.len() {
-        numbers[at] = 0;
-    }
-}
-
-pub fn clear_words(words: &mut [u64], from: usize)
-    ensures { words.new ≡ take from words.old ++ zeros (length words.old - from) }
-{
-    for at in from..words.len() {
-        words[at] = 0;
+        numbers[at] = T::ZERO;
     }
 }

@@ -1,17 +1,14 @@
--- A gate's trees by the case of its representatives: the tests of the code find the case of the definition, and its trees are emitted.
+-- A gate's trees by the case of its representatives, and the net that it stands for.
 use Prim.Native.Nat.{ℕ, ◌<◌}
 use mathlib.Core.Path.{◌≡◌}
-use mathlib.Core.Bool.{Bool, true, false, ◌||◌}
+use mathlib.Core.Bool.{Bool, true, false}
 use mathlib.Core.List.{List}
 use native.Mathlib.Omega.{arith}
 use lib.Dec.{eqb}
 use lib.ListN.{length}
-use borrow.Author.Tests.{eq-eqb, ne_eqb}
+use Rattle.std.proofs.lemmas.Bool.{eqb-false}
 use Rattle.model.specs.Nets.{net_of}
-use Rattle.model.specs.Clauses.{neg}
 use Rattle.fold_laws.specs.Cases.{AndCase, and_case, XorCase, xor_case}
-use Rattle.fold_laws.specs.Cases.AndCase.{nil, pass, opp, pair}
-use Rattle.fold_laws.specs.Cases.XorCase.{pass, same, pair}
 use Rattle.fold_laws.specs.Table.{Entry, rep_of}
 use Rattle.fold_laws.proofs.Facts.{stands_below}
 use Rattle.emit_laws.specs.Trees.{Tree}
@@ -23,40 +20,6 @@ use Rattle.derivation.specs.declared.gates.DefinedGate.{DefinedGate}
 use Rattle.derivation.specs.Emission.{EmitsAll}
 use Rattle.derivation.specs.Known.{Known, Next, literals_of, numbers_of, kept_of}
 use Rattle.derivation.specs.Parts.{and_case_trees, xor_case_trees}
-
--- ---- the tests
-
-module _ (p q : ℕ) where
-  pub and_false : p ≡ 0 → and_case p q ≡ nil
-  unfolding and_case
-  and_false e = rw (eq-eqb p 0 e)
-
-  module _ (z : p ≡ 0 → ⊥) where
-    pub and_pass : eqb p 1 || eqb p q ≡ true → and_case p q ≡ pass
-    unfolding and_case
-    and_pass e = rw (ne_eqb p 0 z, e)
-
-    pub and_opposite : (p ≡ 1 → ⊥) → eqb p q ≡ false → p ≡ neg q → and_case p q ≡ opp
-    unfolding and_case
-    and_opposite o d e = rw (ne_eqb p 0 z, ne_eqb p 1 o, d, eq-eqb p (neg q) e)
-
-    pub and_pair_lem : (p ≡ 1 → ⊥) → eqb p q ≡ false → (p ≡ neg q → ⊥) → and_case p q ≡ pair
-    unfolding and_case
-    and_pair_lem o d e = rw (ne_eqb p 0 z, ne_eqb p 1 o, d, ne_eqb p (neg q) e)
-
-  pub xor_pass : p ≡ 0 → xor_case p q ≡ pass
-  unfolding xor_case
-  xor_pass e = rw (eq-eqb p 0 e)
-
-  pub xor_same : (p ≡ 0 → ⊥) → p ≡ q → xor_case p q ≡ same
-  unfolding xor_case
-  xor_same z e = rw (ne_eqb p 0 z, eq-eqb p q e)
-
-  pub xor_pair : (p ≡ 0 → ⊥) → (p ≡ q → ⊥) → xor_case p q ≡ pair
-  unfolding xor_case
-  xor_pair z e = rw (ne_eqb p 0 z, ne_eqb p q e)
-
--- ---- the trees of the case
 
 -- for every table and all clause numbers that the working numbers stand for
 abbrev Always : List ℕ → ℕ → DefinedGate → (List Entry → List (List ℕ) → Type 0) → Type 0
@@ -81,5 +44,5 @@ module _ (d : DefinedGate) {work : List ℕ} {start p q : ℕ} {f g : List ℕ} 
 
 -- the net that a gate stands for, if it is another, is done
 pub hit_done : {work : List ℕ} {start : ℕ} {t : List Entry} {links : List (List ℕ)} (d : DefinedGate) → Known work start t links → Next t links (literals_of d)
-    → (rep_of t d.n.code ≡ d.n.code → ⊥) → net_of (rep_of t d.n.code) < length links
-hit_done d k h e = omega (arith, stands_below k.laws d.n.code (omega arith) e)
+    → eqb (rep_of t d.n.code) d.n.code ≡ false → net_of (rep_of t d.n.code) < length links
+hit_done d k h e = omega (arith, stands_below k.laws d.n.code (omega arith) (eqb-false _ _ e))

@@ -1,8 +1,8 @@
--- Derivations emitted one after the other: how many lines at most, a clause that is there, the resolvent of two, a derivation that goes on from
+-- Derivations emitted one after the other: a clause that is there, the resolvent of two, a derivation that goes on from
 -- another's clause, and the trees of a gate.
-use Prim.Native.Nat.{ℕ, suc, ◌+◌, ◌≤◌}
+use Prim.Native.Nat.{ℕ, suc, ◌+◌}
 use mathlib.Core.Path.{◌≡◌, refl, sym, ap, ◌∙◌, subst}
-use mathlib.Core.Bool.{Bool, true}
+use mathlib.Core.Bool.{true}
 use mathlib.Core.List.{List, [], ◌∷◌, ◌++◌, append_assoc, append-nil}
 use native.Mathlib.Omega.{arith}
 use lib.Dec.{eqb}
@@ -16,27 +16,7 @@ use Rattle.emit_laws.specs.Trees.Tree.{old, cut}
 use Rattle.emit_laws.specs.Stepwise.{Then}
 use Rattle.derivation.specs.declared.lines.Derived.{Derived}
 use Rattle.derivation.specs.declared.gates.DerivedGate.{DerivedGate}
-use Rattle.derivation.specs.Emission.{Written, Room, Few, FewGate, Emits, EmitsAll}
-
--- ---- at most so many lines
-
--- a clause that is there takes none
-pub few_old : {s r : Derived} {c n : ℕ} → r ≡ record { lines = s.lines; clauses = s.clauses; clause = c } → Few s n r
-few_old e = rw e (record { lines = omega arith; clauses = omega arith })
-
-pub few_then : {s a r : Derived} {m n : ℕ} → Few s m a → Few a n r → Few s (m + n) r
-few_then f g = record { lines = omega (arith, f.lines, g.lines); clauses = omega (arith, f.clauses, g.clauses) }
-
-pub few_gate : {s r : Derived} {n : ℕ} {k : DerivedGate} {linked : Bool} {ns : List ℕ} → Few s n r
-    → k ≡ record { lines = r.lines; clauses = r.clauses; linked = linked; numbers = ns } → FewGate s n k
-few_gate f e = rw e (record { lines = f.lines; clauses = f.clauses })
-
-pub few_more : {s : Derived} {n m : ℕ} {k : DerivedGate} → FewGate s n k → n ≤ m → FewGate s m k
-few_more f h = record { lines = omega (arith, f.lines); clauses = omega (arith, f.clauses) }
-
--- the room that is left, in as many bytes
-pub room_then : {bytes more n m : ℕ} {s a : Derived} {l : ℕ} → Room bytes s more → Few s n a → l ≡ bytes → n + m ≤ more → Room l a m
-room_then r f e h = record { bytes_for_all = omega (arith, r.bytes_for_all, f.lines); numbers = omega (arith, r.numbers, f.clauses) }
+use Rattle.derivation.specs.Emission.{Written, Emits, EmitsAll}
 
 -- ---- one tree
 

@@ -1,16 +1,27 @@
 -- Substitutions emitted: by the case of the literal, of the two literals, and of what is linked.
-use Prim.Native.Nat.{ℕ}
-use mathlib.Core.Path.{◌≡◌, subst}
+use Prim.Native.Nat.{ℕ, zero, suc}
+use mathlib.Core.Path.{◌≡◌, refl, sym, ap, ◌∙◌, subst}
 use mathlib.Core.Bool.{true, false}
 use mathlib.Core.List.{List}
-use borrow.Author.Tests.{eq-eqb, ne_eqb}
+use native.Mathlib.Omega.{arith}
+use lib.Dec.{eqb, leb}
+use Rattle.std.specs.Ordering.{is_gt, nat_cmp}
+use Rattle.std.proofs.Common.{Greater}
+use Rattle.std.specs.Cmp.{nat_cmp_is}
+use Rattle.std.proofs.lemmas.Bool.{le-leb}
 use Rattle.emit_laws.specs.Trees.{Tree, num}
 use Rattle.emit_laws.specs.Trees.Tree.{old, cut}
-use Rattle.emit_laws.specs.Subst.{own, subst1, subst2, link2}
+use Rattle.emit_laws.specs.Subst.{least_own, own, subst1, subst2, link2}
 use Rattle.emit_laws.proofs.Stepwise.{then_subst1}
 use Rattle.derivation.specs.declared.lines.Derived.{Derived}
 use Rattle.derivation.specs.Emission.{Emits}
 use Rattle.derivation.proofs.EmitLaws.{emits_then}
+
+-- the test of `subst1`: the literal is that of a net behind net 0
+pub own_test : (l : ℕ) → is_gt (nat_cmp l 1) ≡ leb least_own l
+own_test zero = refl
+own_test (suc zero) = refl
+own_test (suc (suc n)) = ap is_gt (sym (nat_cmp_is (suc (suc n)) 1 Greater (omega arith))) ∙ sym (le-leb 2 (suc (suc n)) (omega arith))
 
 module _ (R E : ℕ → ℕ) {p q : List ℕ} {s r : Derived} (d : Tree) (l : ℕ) where
   -- a literal that stands for itself stays; any other is resolved with its link
@@ -23,22 +34,22 @@ module _ (R E : ℕ → ℕ) {p q : List ℕ} {s r : Derived} (d : Tree) (l : �
   emits_linked e f = rw e f
 
   -- the same literal twice, and two in turn
-  pub emits_once : (m : ℕ) → l ≡ m → Emits p s q r (subst1 R E d l) → Emits p s q r (subst2 R E d l m)
+  pub emits_once : (m : ℕ) → eqb l m ≡ true → Emits p s q r (subst1 R E d l) → Emits p s q r (subst2 R E d l m)
   unfolding subst2
-  emits_once m e f = rw (eq-eqb l m e) f
+  emits_once m e f = rw e f
 
-  pub emits_twice : (m : ℕ) → (l ≡ m → ⊥) → {o : List ℕ} {a : Derived} → Emits p s o a (subst1 R E d l) → Emits o a q r (subst1 R E (old a.clause) m)
+  pub emits_twice : (m : ℕ) → eqb l m ≡ false → {o : List ℕ} {a : Derived} → Emits p s o a (subst1 R E d l) → Emits o a q r (subst1 R E (old a.clause) m)
       → Emits p s q r (subst2 R E d l m)
   unfolding subst2
   emits_twice m e {o} {a} f g =
       let h : Emits o a q r (subst1 R E (old (num s.clauses (subst1 R E d l))) m) = subst (λ (n : ℕ). Emits o a q r (subst1 R E (old n) m)) f.number g in
-      rw (ne_eqb l m e) (emits_then f h (then_subst1 R E s.clauses (subst1 R E d l) m))
+      rw e (emits_then f h (then_subst1 R E s.clauses (subst1 R E d l) m))
 
   -- no link where n stands for true
-  pub emits_no_link : (n m : ℕ) → R n ≡ 1 → Emits p s q r (old 0) → Emits p s q r (link2 R E n d l m)
+  pub emits_no_link : (n m : ℕ) → eqb (R n) 1 ≡ true → Emits p s q r (old 0) → Emits p s q r (link2 R E n d l m)
   unfolding link2
-  emits_no_link n m e f = rw (eq-eqb (R n) 1 e) f
+  emits_no_link n m e f = rw e f
 
-  pub emits_link : (n m : ℕ) → (R n ≡ 1 → ⊥) → Emits p s q r (subst2 R E d l m) → Emits p s q r (link2 R E n d l m)
+  pub emits_link : (n m : ℕ) → eqb (R n) 1 ≡ false → Emits p s q r (subst2 R E d l m) → Emits p s q r (link2 R E n d l m)
   unfolding link2
-  emits_link n m e f = rw (ne_eqb (R n) 1 e) f
+  emits_link n m e f = rw e f

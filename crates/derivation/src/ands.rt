@@ -8,7 +8,7 @@ ghost use Rattle.derivation.specs.Emission.{Room, Few, FewGate, Emits, EmitsAll}
 ghost use Rattle.derivation.specs.Known.{Known, Next, literals_of, numbers_of, kept_of};
 ghost use Rattle.derivation.specs.Parts.{and_case_trees, and_own, and_down, and_up};
 
-use crate::gates::{DefinedGate, DerivedGate, and_clauses, two_links};
+use crate::gates::{DefinedGate, DerivedGate, key_clauses, two_links};
 use crate::lines::{Derived, given, resolve_on};
 use crate::subst::{link2, subst2};
 use literal::Literal;
@@ -90,7 +90,7 @@ fn and_own(work: &[u16], start: usize, proof: &mut [u8], at: Derived, d: Defined
     let first = subst2(work, start, proof, at, d.a, d.x, d.x);
     let second = subst2(work, start, proof, first, d.b, d.y, d.y);
     let third = subst2(work, start, proof, second, d.c, not_x, not_y);
-    and_clauses(first, second, third)
+    key_clauses(third, [first.clause, second.clause, third.clause, 0])
 }
 
 // The gate implies the earlier gate u with its key.
@@ -172,7 +172,7 @@ fn and_pair(
         → EmitsAll proof.old at proof.new result (and_case_trees t links pair d) }
 {
     let rep = representative(work, d.n);
-    if rep.code == d.n.code {
+    if rep == d.n {
         return and_own(work, start, proof, at, d);
     }
     let u = rep.variable() as usize;
@@ -196,14 +196,13 @@ pub fn and_gate(
 {
     let p = representative(work, d.x);
     let q = representative(work, d.y);
-    if p.code == Literal::FALSE {
+    if p == Literal::FALSE {
         return and_false(work, start, proof, at, d);
     }
-    if p.code == Literal::TRUE || p.code == q.code {
+    if p == Literal::TRUE || p == q {
         return and_pass(work, start, proof, at, d);
     }
-    let not_q = q.complement();
-    if p.code == not_q.code {
+    if p == q.complement() {
         return and_opposite(work, start, proof, at, d);
     }
     and_pair(work, start, proof, at, d)

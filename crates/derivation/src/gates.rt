@@ -38,26 +38,14 @@ pub fn two_links(a: Derived, b: Derived) -> DerivedGate
     }
 }
 
-// The clauses of an AND over its key.
-pub fn and_clauses(a: Derived, b: Derived, c: Derived) -> DerivedGate
-    ensures { result ≡ record { lines = c.lines; clauses = c.clauses; linked = false; numbers = a.clause ∷ b.clause ∷ c.clause ∷ 0 ∷ [] } }
+// The gate has clauses over its key, of which an AND has three.
+pub fn key_clauses(at: Derived, numbers: [u16; 4]) -> DerivedGate
+    ensures { result ≡ record { lines = at.lines; clauses = at.clauses; linked = false; numbers = numbers } }
 {
     DerivedGate {
-        lines: c.lines,
-        clauses: c.clauses,
+        lines: at.lines,
+        clauses: at.clauses,
         linked: false,
-        numbers: [a.clause, b.clause, c.clause, 0],
-    }
-}
-
-// Those of an XOR.
-pub fn xor_clauses(a: Derived, b: Derived, c: Derived, d: Derived) -> DerivedGate
-    ensures { result ≡ record { lines = d.lines; clauses = d.clauses; linked = false; numbers = a.clause ∷ b.clause ∷ c.clause ∷ d.clause ∷ [] } }
-{
-    DerivedGate {
-        lines: d.lines,
-        clauses: d.clauses,
-        linked: false,
-        numbers: [a.clause, b.clause, c.clause, d.clause],
+        numbers,
     }
 }

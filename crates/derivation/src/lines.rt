@@ -1,11 +1,12 @@
 // One line of the proof: a resolution, written behind those before it.
 ghost use Rattle.std.specs.Prelude.{◌≡◌, length};
-ghost use Rattle.frame.specs.Frames.{resolve};
+ghost use Rattle.frame.specs.Rows.{resolve_frame};
 ghost use Rattle.emit_laws.specs.Fields as model;
 ghost use Rattle.emit_laws.specs.Replay as replay;
 ghost use Rattle.emit_laws.specs.Trees.Tree.{old, cut as cut_tree};
 ghost use Rattle.derivation.specs.Emission.{Room, Few, Emits};
 
+use frame::Resolve;
 use frame::kinds::RESOLVE_BYTES;
 use frame::resolves::write_resolve;
 use literal::Literal;
@@ -22,27 +23,15 @@ pub struct Derived {
 pub fn given(at: Derived, c: u16) -> Derived
     ensures { result ≡ record { lines = at.lines; clauses = at.clauses; clause = c } }
 {
-    Derived {
-        lines: at.lines,
-        clauses: at.clauses,
-        clause: c,
-    }
-}
-
-// A resolve's fields: the first clause holds the variable, the second its complement.
-#[derive(Clone, Copy)]
-pub struct Resolve {
-    pub first: u16,
-    pub second: u16,
-    pub variable: u16,
+    Derived { clause: c, ..at }
 }
 
 // The resolution of clause a, which holds the pivot, and clause b, which holds its complement.
 fn resolution(a: u16, b: u16, pivot: Literal) -> Resolve
-    ensures { resolve result.first result.second result.variable ≡ model.frame_of (replay.pivot a b pivot.code) }
+    ensures { resolve_frame result ≡ model.frame_of (replay.pivot a b pivot.code) }
 {
     let variable = pivot.variable();
-    if pivot.sign() == 1 {
+    if pivot.sign() {
         return Resolve {
             first: b,
             second: a,
@@ -63,13 +52,7 @@ pub fn resolve_on(proof: &mut [u8], at: Derived, a: u16, b: u16, pivot: Literal)
     ensures emits { Emits proof.old at proof.new result (cut_tree (old a) (old b) pivot.code) }
 {
     let step = resolution(a, b, pivot);
-    write_resolve(
-        proof,
-        RESOLVE_BYTES * at.lines,
-        step.first,
-        step.second,
-        step.variable,
-    );
+    write_resolve(proof, RESOLVE_BYTES * at.lines, step);
     let clause = at.clauses + 1;
     Derived {
         lines: at.lines + 1,

@@ -27,7 +27,7 @@ pub fn subst1(
     ensures emits { (t : List Entry) (links : List (List ℕ)) → Known work.now start t links → net_of l.code < length links
         → Emits proof.old at proof.new result (model.subst1 (rep_of t) (link_of links) (old c) l.code) }
 {
-    if representative(work, l).code == l.code && 2 <= l.code {
+    if representative(work, l) == l && l > Literal::TRUE {
         return given(at, c);
     }
     resolve_on(proof, at, c, link(work, start, l), l)
@@ -49,7 +49,7 @@ pub fn subst2(
         → Emits proof.old at proof.new result (model.subst2 (rep_of t) (link_of links) (old c) l.code m.code) }
 {
     let one = subst1(work, start, proof, at, c, l);
-    if l.code == m.code {
+    if l == m {
         return one;
     }
     subst1(work, start, proof, one, one.clause, m)
@@ -71,7 +71,7 @@ pub fn link2(
     ensures emits { (t : List Entry) (links : List (List ℕ)) → Known work.now start t links → net_of n.code < length t → net_of l.code < length links → net_of m.code < length links
         → Emits proof.old at proof.new result (model.link2 (rep_of t) (link_of links) n.code (old c) l.code m.code) }
 {
-    if representative(work, n).code == Literal::TRUE {
+    if representative(work, n) == Literal::TRUE {
         return given(at, 0);
     }
     subst2(work, start, proof, at, c, l, m)

@@ -8,7 +8,7 @@ ghost use Rattle.derivation.specs.Emission.{Room, Few, FewGate, Emits, EmitsAll}
 ghost use Rattle.derivation.specs.Known.{Known, Next, literals_of, numbers_of, kept_of};
 ghost use Rattle.derivation.specs.Parts.{xor_case_trees, xor_own, xor_down, xor_up};
 
-use crate::gates::{DefinedGate, DerivedGate, two_links, xor_clauses};
+use crate::gates::{DefinedGate, DerivedGate, key_clauses, two_links};
 use crate::lines::{Derived, given, resolve_on};
 use crate::subst::{link2, subst2};
 use literal::Literal;
@@ -75,7 +75,10 @@ fn xor_own(work: &[u16], start: usize, proof: &mut [u8], at: Derived, d: Defined
     let second = subst2(work, start, proof, first, d.b, d.x, not_y);
     let third = subst2(work, start, proof, second, d.c, not_x, d.y);
     let fourth = subst2(work, start, proof, third, d.d, not_x, not_y);
-    xor_clauses(first, second, third, fourth)
+    key_clauses(
+        fourth,
+        [first.clause, second.clause, third.clause, fourth.clause],
+    )
 }
 
 // The gate implies the core of the earlier gate u with its key.
@@ -164,7 +167,7 @@ fn xor_pair(
         → EmitsAll proof.old at proof.new result (xor_case_trees t links pair d) }
 {
     let rep = representative(work, d.n);
-    if rep.code == d.n.code {
+    if rep == d.n {
         return xor_own(work, start, proof, at, d);
     }
     let u = rep.variable() as usize;
@@ -188,10 +191,10 @@ pub fn xor_gate(
 {
     let p = representative(work, d.x);
     let q = representative(work, d.y);
-    if p.code == Literal::FALSE {
+    if p == Literal::FALSE {
         return xor_pass(work, start, proof, at, d);
     }
-    if p.code == q.code {
+    if p == q {
         return xor_same(work, start, proof, at, d);
     }
     xor_pair(work, start, proof, at, d)

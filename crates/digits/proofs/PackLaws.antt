@@ -2,17 +2,18 @@
 -- their values, at once. What holds of one byte is computed for each.
 use Prim.Native.Nat.{ℕ, ◌+◌, ◌-◌, ◌*◌, ◌/◌, ◌%◌, ◌^◌, ◌<◌, ◌≤◌}
 use mathlib.Core.Path.{◌≡◌, refl, sym, ◌∙◌}
-use mathlib.Core.Bool.{true, not, cond}
+use mathlib.Core.Bool.{Bool, true, false, ◌&&◌, not, cond}
+use Rattle.std.specs.Prelude.{Some, None}
 use native.Mathlib.Omega.{arith}
 use lib.Bits.{bit_and, and_block, and_mask, and_high, and_le_l, and_le_r}
 use lib.Dec.{eqb, leb, ltb}
 use borrow.Author.Tests.{eqb-true, eq-eqb, leb-true, ltb-true, not-true}
 use Rattle.model.specs.Lines.{is_digit, digit_of, digit_value}
 use Rattle.model.specs.Nets.{xorb}
-use Rattle.laws.specs.Bools.{xorb_equal}
+use Rattle.laws.specs.Bools.{both, xorb_equal}
 use Rattle.digits.specs.Digits.{value_of}
-use Rattle.digits.specs.Packed.{packed, Digits, no_values, Values}
-use Rattle.digits.proofs.DigitLaws.{each, same, value_back, digit_sum}
+use Rattle.digits.specs.Packed.{packed, are_digits, four_values}
+use Rattle.digits.proofs.DigitLaws.{each, same, digit_sum}
 
 -- ---- parts
 
@@ -133,21 +134,25 @@ module _ {a b c d : ℕ} (p : Lane a) (q : Lane b) (r : Lane c) (s : Lane d) whe
       let m = and_packed (figure a) (figure b) (figure c) (figure d) (above a) (above b) (above c) (above d) (omega arith) (omega arith) (omega arith) (omega arith) (omega arith) (omega arith) (omega arith) (omega arith) in
       rw (aboves_packed, figures_packed, m) (and_packed _ _ _ _ 240 240 240 240 p.small.1 q.small.1 r.small.1 s.small.1 (omega arith) (omega arith) (omega arith) (omega arith))
 
-  pub no_values_lem : (tests (packed a b c d) ≡ 0x30303030 → ⊥) → Values a b c d no_values
-  no_values_lem fails =
-      record {
-        are = λ h. absurd (omega arith);
-        values = λ h. absurd (omega arith);
-        small = λ h. absurd (omega arith);
-        none = λ _ i. fails (omega (arith, tests_packed, p.passes i.0, q.passes i.1, r.passes i.2, s.passes i.3));
-      }
+  pub no_four : (tests (packed a b c d) ≡ 0x30303030 → ⊥) → None ≡ four_values a b c d
+  no_four fails = go (are_digits a b c d) refl
+    where
+      go : (t : Bool) → are_digits a b c d ≡ t → None ≡ cond t (Some (packed (value_of a) (value_of b) (value_of c) (value_of d))) None
+      go true e =
+          let l = both (is_digit a && is_digit b && is_digit c) (is_digit d) e in
+          let m = both (is_digit a && is_digit b) (is_digit c) l.0 in
+          let n = both (is_digit a) (is_digit b) m.0 in
+          absurd (fails (omega (arith, tests_packed, p.passes n.0, q.passes n.1, r.passes m.1, s.passes l.1)))
+      go false e = refl
 
-  pub four_values : tests (packed a b c d) ≡ 0x30303030 → Values a b c d (values (packed a b c d))
-  four_values e =
+  pub four : tests (packed a b c d) ≡ 0x30303030 → Some (values (packed a b c d)) ≡ four_values a b c d
+  four e =
       let t = same_parts (test a) (test b) (test c) (test d) 48 48 48 48 p.small.2 q.small.2 r.small.2 s.small.2 (omega arith) (omega arith) (omega arith) (omega arith) (sym tests_packed ∙ e) in
-      let i : Digits a b c d = (p.is t.0, q.is t.1, r.is t.2, s.is t.3) in
-      let m : packed (value_of a) (value_of b) (value_of c) (value_of d) ≤ 0x0F0F0F0F = omega (arith, (value_back a i.0).0, (value_back b i.1).0, (value_back c i.2).0, (value_back d i.3).0) in
-      rw (values_packed, p.value i.0, q.value i.1, r.value i.2, s.value i.3) record { are = λ _. i; values = λ _. refl; small = λ _. m; none = λ h. absurd (omega arith) }
+      let i = p.is t.0 in
+      let j = q.is t.1 in
+      let k = r.is t.2 in
+      let m = s.is t.3 in
+      rw (values_packed, p.value i, q.value j, r.value k, s.value m, i, j, k, m)
 
 -- nothing wraps, and nothing goes below 0
 pub no_wrap : (n : ℕ) → n < 4294967296 → (17 * letters n ≤ n) × (figures n + 0x06060606 + 4 * letters n ≤ 0xF8F8F8F8)

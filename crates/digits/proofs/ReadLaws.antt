@@ -1,115 +1,156 @@
--- Laws of reading numbers: two, four and six digits at a place, each a number with the run of digits going on behind it, or the run stops before.
-use Prim.Native.Nat.{ℕ, ◌+◌, ◌*◌, ◌<◌, ◌≤◌}
-use mathlib.Core.Path.{◌≡◌, refl}
+-- Laws of what is read at a place: the number of all the digits there, or none where the run of digits stops before. Digits are read one part
+-- behind the other, each part none where the run stops in it.
+use Prim.Native.Nat.{ℕ, ◌+◌, ◌*◌, ◌^◌, ◌<◌, ◌≤◌}
+use mathlib.Core.Path.{◌≡◌, refl, sym, ap, ◌∙◌}
 use mathlib.Core.List.{List}
-use mathlib.Core.Bool.{Bool, true, false}
+use mathlib.Core.Bool.{Bool, true, false, ◌&&◌, cond}
 use native.Mathlib.Omega.{arith}
 use lib.ListN.{length, drop, get_or}
-use lib.Dec.{ltb}
-use borrow.Author.Tests.{ltb-true, ltb-false}
+use lib.Dec.{leb}
+use borrow.Author.Tests.{le-leb, lt-leb, leb-true, leb-false}
+use Rattle.std.specs.Prelude.{Some, None}
+use Rattle.std.specs.Option.{option_map, option_and_then}
+use Rattle.std.proofs.lemmas.Option.{cond_some}
+use Rattle.laws.specs.Bools.{both}
 use Rattle.model.specs.Lines.{is_digit}
 use Rattle.model.specs.Frames.{one_byte, two_bytes, three_bytes}
-use Rattle.digits.specs.Digits.{value_of, run, Digit, Spelt, byte_limit, word_limit, triple_limit}
-use Rattle.digits.specs.Packed.{packed, no_values, Values}
-use Rattle.digits.proofs.DigitLaws.{value_back, run_more, run_stop, byte_number, word_number, triple_number}
+use Rattle.digits.specs.Digits.{value_of, run, number_at, value_at, spelt}
+use Rattle.digits.specs.Packed.{packed, are_digits, four_values}
+use Rattle.digits.proofs.DigitLaws.{value_back, run_more, run_stop, run_on, number_one, number_join}
 
--- ---- one digit
+-- this many digits stand at a place, with this number, and the run of digits goes on behind them
+pub record Spelt (text : List ℕ) (at width n : ℕ) : Type 0 where
+  pub goes : run (drop at text) ≡ width + run (drop (at + width) text)
+  pub number : n ≡ number_at text at width
 
-pub one_digit : (b r : ℕ) → is_digit b ≡ true → r ≡ value_of b → Digit b r
-one_digit b r d e =
-    let v = value_back b d in
-    record { is = λ _. d; value = λ _. e; small = λ _. omega arith; most = omega arith; none = λ h. absurd (omega arith) }
+module _ (l : List ℕ) (k w : ℕ) where
+  spelt_is : w ≤ run (drop k l) → spelt l k w ≡ Some (number_at l k w)
+  unfolding spelt
+  spelt_is h = rw (le-leb w (run (drop k l)) h)
 
--- ---- two digits
+  spelt_not : run (drop k l) < w → spelt l k w ≡ None
+  unfolding spelt
+  spelt_not h = rw (lt-leb w (run (drop k l)) h)
 
-module _ (l : List ℕ) (k x y : ℕ) (n : k + 2 ≤ length l) (p : Digit (get_or l k 0) x) (q : Digit (get_or l (k + 1) 0) y) where
-  pub two_digits : Spelt l k one_byte byte_limit (16 * x + y)
-  two_digits =
-      let f : k + 1 + 1 ≡ k + 2 = omega arith in
-      record {
-        goes = λ h next e.
-            let a = run_more l k (omega arith) (p.is (omega arith)) in
-            let b = rw f at (run_more l (k + 1) (omega arith) (q.is (omega arith))) in
-            rw e (omega arith);
-        number = λ h. omega (arith, byte_number l k n, p.value (omega arith), q.value (omega arith));
-        stops = λ h. go (ltb x byte_limit) refl h;
-      }
+  pub spelt_some : {n : ℕ} → Some n ≡ spelt l k w → Spelt l k w n
+  spelt_some {n} e = go (leb w (run (drop k l))) refl
     where
-      go : (t : Bool) → ltb x byte_limit ≡ t → byte_limit ≤ 16 * x + y → run (drop k l) < 2
-      go false t h = omega (arith, run_stop l k (omega arith) (p.none (ltb-false x byte_limit t)))
-      go true t h =
-          let s = p.small (ltb-true x byte_limit t) in
-          let a = run_more l k (omega arith) (p.is (ltb-true x byte_limit t)) in
-          let b = run_stop l (k + 1) (omega arith) (q.none (by_size (ltb y byte_limit) refl s h)) in
-          omega arith
-        where
-          by_size : (u : Bool) → ltb y byte_limit ≡ u → x < 16 → byte_limit ≤ 16 * x + y → byte_limit ≤ y
-          by_size true u s h = absurd (omega (arith, q.small (ltb-true y byte_limit u)))
-          by_size false u s h = ltb-false y byte_limit u
+      go : (t : Bool) → leb w (run (drop k l)) ≡ t → Spelt l k w n
+      go true t =
+          let h = leb-true w (run (drop k l)) t in
+          let s = spelt_is h in
+          record { goes = run_on l k w h; number = cc }
+      go false t = let s = spelt_not (leb-false w (run (drop k l)) t) in cc
 
--- ---- four digits
-
-module _ (l : List ℕ) (k v : ℕ) (n : k + 4 ≤ length l) (p : Values (get_or l k 0) (get_or l (k + 1) 0) (get_or l (k + 2) 0) (get_or l (k + 3) 0) v) where
-  step : (i j : ℕ) → j ≡ i + 1 → j ≤ length l → is_digit (get_or l i 0) ≡ true → run (drop i l) ≡ 1 + run (drop j l)
-  step i j e h d = rw e (run_more l i (omega arith) d)
-
-  pub four_digits : v < no_values → (r : ℕ) → ((a b c d : ℕ) → a < 16 → b < 16 → c < 16 → d < 16 → v ≡ packed a b c d → r ≡ 4096 * a + 256 * b + 16 * c + d)
-      → Spelt l k two_bytes word_limit r
-  four_digits h r word =
-      let i = p.are h in
-      let a = value_back _ i.0 in
-      let b = value_back _ i.1 in
-      let c = value_back _ i.2 in
-      let d = value_back _ i.3 in
-      let w = word _ _ _ _ a.0 b.0 c.0 d.0 (p.values h) in
-      let f : k + 2 + 1 ≡ k + 3 = omega arith in
-      record {
-        goes = λ _ next e.
-            omega (
-              arith,
-              step k (k + 1) refl (omega arith) i.0,
-              step (k + 1) (k + 2) (omega arith) (omega arith) i.1,
-              step (k + 2) (k + 3) (omega arith) (omega arith) i.2,
-              step (k + 3) next (omega arith) (omega arith) i.3,
-            );
-        number = λ _. omega (arith, word_number l k n, byte_number l k (omega arith), rw f at (byte_number l (k + 2) (omega arith)));
-        stops = λ j. absurd (omega arith);
-      }
-
-  pub no_word : no_values ≤ v → Spelt l k two_bytes word_limit word_limit
-  no_word h =
-      record {
-        goes = λ j _ _. absurd (omega arith);
-        number = λ j. absurd (omega arith);
-        stops = λ _. go (is_digit (get_or l k 0)) (is_digit (get_or l (k + 1) 0)) (is_digit (get_or l (k + 2) 0)) (is_digit (get_or l (k + 3) 0)) refl refl refl refl;
-      }
+  pub spelt_none : None ≡ spelt l k w → run (drop k l) < w
+  spelt_none e = go (leb w (run (drop k l))) refl
     where
-      go : (s t u w : Bool) → is_digit (get_or l k 0) ≡ s → is_digit (get_or l (k + 1) 0) ≡ t → is_digit (get_or l (k + 2) 0) ≡ u → is_digit (get_or l (k + 3) 0) ≡ w → run (drop k l) < 4
-      go false t u w a b c d = omega (arith, run_stop l k (omega arith) a)
-      go true false u w a b c d = omega (arith, step k (k + 1) refl (omega arith) a, run_stop l (k + 1) (omega arith) b)
-      go true true false w a b c d = omega (arith, step k (k + 1) refl (omega arith) a, step (k + 1) (k + 2) (omega arith) (omega arith) b, run_stop l (k + 2) (omega arith) c)
-      go true true true false a b c d = omega (arith, step k (k + 1) refl (omega arith) a, step (k + 1) (k + 2) (omega arith) (omega arith) b, step (k + 2) (k + 3) (omega arith) (omega arith) c, run_stop l (k + 3) (omega arith) d)
-      go true true true true a b c d = absurd (p.none h (a, b, c, d))
+      go : (t : Bool) → leb w (run (drop k l)) ≡ t → run (drop k l) < w
+      go true t = let s = spelt_is (leb-true w (run (drop k l)) t) in cc
+      go false t = leb-false w (run (drop k l)) t
 
--- ---- six digits
+pub value_small : (b : ℕ) {v : ℕ} → value_at b ≡ Some v → v < 16
+value_small b {v} e =
+    let f = cond_some (is_digit b) (value_of b) v e in
+    rw (← f.1) (value_back b f.0).0
 
-module _ (l : List ℕ) (k x y : ℕ) (n : k + 6 ≤ length l) (p : Spelt l k one_byte byte_limit x) (q : Spelt l (k + 2) two_bytes word_limit y) where
-  pub six_digits : x < byte_limit → y < word_limit → Spelt l k three_bytes triple_limit (65536 * x + y)
-  six_digits h i =
-      let a = p.goes h (k + 2) refl in
-      record {
-        goes = λ _ next e. omega (arith, q.goes i next (omega arith));
-        number = λ _. omega (arith, triple_number l k n, p.number h, q.number i);
-        stops = λ j. absurd (omega arith);
-      }
+-- ---- one part behind the other
 
-  pub no_low : x < byte_limit → word_limit ≤ y → Spelt l k three_bytes triple_limit triple_limit
-  no_low h i =
-      let a = p.goes h (k + 2) refl in
-      let b = q.stops i in
-      record { goes = λ j _ _. absurd (omega arith); number = λ j. absurd (omega arith); stops = λ _. omega arith }
+spelt_one : (l : List ℕ) (k : ℕ) → k < length l → spelt l k 1 ≡ value_at (get_or l k 0)
+spelt_one l k h = go (is_digit (get_or l k 0)) refl
+  where
+    go : (t : Bool) → is_digit (get_or l k 0) ≡ t → spelt l k 1 ≡ cond t (Some (value_of (get_or l k 0))) None
+    go true t = rw (spelt_is l k 1 (omega (arith, run_more l k h t)), number_one l k h)
+    go false t = rw (spelt_not l k 1 (omega (arith, run_stop l k h t)))
 
-pub no_triple : (l : List ℕ) (k x : ℕ) → Spelt l k one_byte byte_limit x → byte_limit ≤ x → Spelt l k three_bytes triple_limit triple_limit
-no_triple l k x p h =
-    let b = p.stops h in
-    record { goes = λ j _ _. absurd (omega arith); number = λ j. absurd (omega arith); stops = λ _. omega arith }
+spelt_join : (l : List ℕ) (k v w : ℕ) → k + v + w ≤ length l → spelt l k (v + w) ≡ option_and_then (λ m. option_map (λ n. 16 ^ w * m + n) (spelt l (k + v) w)) (spelt l k v)
+spelt_join l k v w h = go (leb v (run (drop k l))) (leb w (run (drop (k + v) l))) refl refl
+  where
+    go : (s t : Bool) → leb v (run (drop k l)) ≡ s → leb w (run (drop (k + v) l)) ≡ t
+        → spelt l k (v + w) ≡ option_and_then (λ m. option_map (λ n. 16 ^ w * m + n) (spelt l (k + v) w)) (spelt l k v)
+    go false t a b =
+        let c = leb-false v (run (drop k l)) a in
+        rw (spelt_not l k (v + w) (omega arith), spelt_not l k v c)
+    go true false a b =
+        let c = leb-true v (run (drop k l)) a in
+        let d = leb-false w (run (drop (k + v) l)) b in
+        let e = run_on l k v c in
+        rw (spelt_not l k (v + w) (omega arith), spelt_is l k v c, spelt_not l (k + v) w d)
+    go true true a b =
+        let c = leb-true v (run (drop k l)) a in
+        let d = leb-true w (run (drop (k + v) l)) b in
+        let e = run_on l k v c in
+        rw (spelt_is l k (v + w) (omega arith), spelt_is l k v c, spelt_is l (k + v) w d, number_join l k v w h)
+
+-- a digit, or two, before others
+before : (l : List ℕ) (k w : ℕ) → k + 1 + w ≤ length l → spelt l k (1 + w) ≡ option_and_then (λ m. option_map (λ n. 16 ^ w * m + n) (spelt l (k + 1) w)) (value_at (get_or l k 0))
+before l k w h = spelt_join l k 1 w h ∙ rw (spelt_one l k (omega arith))
+
+pub two_digits : (l : List ℕ) (k : ℕ) → k + 2 ≤ length l → spelt l k one_byte ≡ option_and_then (λ m. option_map (λ n. 16 * m + n) (value_at (get_or l (k + 1) 0))) (value_at (get_or l k 0))
+two_digits l k h = before l k 1 (omega arith) ∙ rw (spelt_one l (k + 1) (omega arith))
+
+pub six_digits : (l : List ℕ) (k : ℕ) → k + 6 ≤ length l → spelt l k three_bytes ≡ option_and_then (λ m. option_map (λ n. 65536 * m + n) (spelt l (k + 2) two_bytes)) (spelt l k one_byte)
+six_digits l k h = spelt_join l k 2 4 (omega arith)
+
+-- ---- four digits at once
+
+record Four (a b c d v : ℕ) : Type 0 where
+  all : are_digits a b c d ≡ true
+  first : value_of a < 16
+  second : value_of b < 16
+  third : value_of c < 16
+  fourth : value_of d < 16
+  is : v ≡ packed (value_of a) (value_of b) (value_of c) (value_of d)
+
+four_found : (a b c d : ℕ) {v : ℕ} → Some v ≡ four_values a b c d → Four a b c d v
+four_found a b c d {v} e =
+    let f = cond_some (are_digits a b c d) (packed (value_of a) (value_of b) (value_of c) (value_of d)) v (sym e) in
+    let l = both (is_digit a && is_digit b && is_digit c) (is_digit d) f.0 in
+    let m = both (is_digit a && is_digit b) (is_digit c) l.0 in
+    let n = both (is_digit a) (is_digit b) m.0 in
+    record {
+      all = f.0;
+      first = (value_back a n.0).0;
+      second = (value_back b n.1).0;
+      third = (value_back c m.1).0;
+      fourth = (value_back d l.1).0;
+      is = sym f.1;
+    }
+
+pub small_values : (a b c d : ℕ) {v : ℕ} → Some v ≡ four_values a b c d → v ≤ 0x0F0F0F0F
+small_values a b c d e = let f = four_found a b c d e in omega arith
+
+module _ (l : List ℕ) (k : ℕ) (n : k + 4 ≤ length l) where
+  four_digits : spelt l k two_bytes
+      ≡ cond (are_digits (get_or l k 0) (get_or l (k + 1) 0) (get_or l (k + 2) 0) (get_or l (k + 3) 0))
+      (Some (4096 * value_of (get_or l k 0) + 256 * value_of (get_or l (k + 1) 0) + 16 * value_of (get_or l (k + 2) 0) + value_of (get_or l (k + 3) 0))) None
+  four_digits =
+      let two : k + 1 + 1 ≡ k + 2 = omega arith in
+      let three : k + 2 + 1 ≡ k + 3 = omega arith in
+      before l k 3 (omega arith)
+      ∙ rw (before l (k + 1) 2 (omega arith), two, before l (k + 2) 1 (omega arith), three, spelt_one l (k + 3) (omega arith))
+      (go (is_digit (get_or l k 0)) (is_digit (get_or l (k + 1) 0)) (is_digit (get_or l (k + 2) 0)) (is_digit (get_or l (k + 3) 0))
+      (value_of (get_or l k 0)) (value_of (get_or l (k + 1) 0)) (value_of (get_or l (k + 2) 0)) (value_of (get_or l (k + 3) 0)))
+    where
+      go : (s t u w : Bool) (a b c d : ℕ)
+          → option_and_then (λ m. option_map (λ n. 16 ^ 3 * m + n) (option_and_then (λ m. option_map (λ n. 16 ^ 2 * m + n) (option_and_then (λ m. option_map (λ n. 16 ^ 1 * m + n) (cond w (Some d) None)) (cond u (Some c) None))) (cond t (Some b) None))) (cond s (Some a) None)
+          ≡ cond (s && t && u && w) (Some (4096 * a + 256 * b + 16 * c + d)) None
+      go false t u w a b c d = refl
+      go true false u w a b c d = refl
+      go true true false w a b c d = refl
+      go true true true false a b c d = refl
+      go true true true true a b c d = ap Some (omega arith)
+
+  -- the values make the number; where there are none, there is none
+  pub word : {v : ℕ} (r : ℕ) → Some v ≡ four_values (get_or l k 0) (get_or l (k + 1) 0) (get_or l (k + 2) 0) (get_or l (k + 3) 0)
+      → ((a b c d : ℕ) → a < 16 → b < 16 → c < 16 → d < 16 → v ≡ packed a b c d → r ≡ 4096 * a + 256 * b + 16 * c + d) → Some r ≡ spelt l k two_bytes
+  word r e joined =
+      let f = four_found (get_or l k 0) (get_or l (k + 1) 0) (get_or l (k + 2) 0) (get_or l (k + 3) 0) e in
+      rw (four_digits, f.all) (ap Some (joined _ _ _ _ f.first f.second f.third f.fourth f.is))
+
+  pub no_word : None ≡ four_values (get_or l k 0) (get_or l (k + 1) 0) (get_or l (k + 2) 0) (get_or l (k + 3) 0) → None ≡ spelt l k two_bytes
+  no_word e = go (are_digits (get_or l k 0) (get_or l (k + 1) 0) (get_or l (k + 2) 0) (get_or l (k + 3) 0)) _ _ e ∙ sym four_digits
+    where
+      go : (t : Bool) (x y : ℕ) → None ≡ cond t (Some x) None → None ≡ cond t (Some y) None
+      go true x y e = cc
+      go false x y e = refl

@@ -12,16 +12,7 @@ ghost use Rattle.digits.specs.Digits.{run};
 pub fn is_digit(b: u8) -> bool
     ensures { result ≡ is_digit b }
 {
-    if b < 48 {
-        return false;
-    }
-    if b < 58 {
-        return true;
-    }
-    if b < 65 {
-        return false;
-    }
-    b < 71
+    matches!(b, b'0'..=b'9' | b'A'..=b'F')
 }
 
 // How many digits stand at a place, one behind the other.
@@ -29,12 +20,10 @@ pub fn digits_at(text: &[u8], at: usize) -> usize
     requires { at ≤ length text.now }
     ensures { (result ≡ run (drop at text.now)) × (at + result ≤ length text.now) }
 {
-    let mut i = at;
-    while i < text.len() {
-        if !is_digit(text[i]) {
-            return i - at;
+    for (count, b) in text[at..].iter().enumerate() {
+        if !is_digit(*b) {
+            return count;
         }
-        i += 1;
     }
-    i - at
+    text.len() - at
 }

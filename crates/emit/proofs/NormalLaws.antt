@@ -1,16 +1,12 @@
 -- A gate in normal form: signs taken off, then order.
 use Prim.Native.Nat.{ℕ, ◌≤◌, ◌<◌}
 use mathlib.Core.Path.{◌≡◌, ap, ◌∙◌}
-use mathlib.Core.Bool.{Bool, true, false, ◌&&◌}
+use mathlib.Core.Bool.{Bool, false, ◌&&◌}
 use native.Mathlib.Omega.{arith}
 use borrow.Author.Tests.{le-leb, lt-leb}
 use Rattle.model.specs.Nets.{net_of, odd}
-use Rattle.fold_laws.proofs.Signs.{signed_net, signed_back}
-use Rattle.emit_laws.specs.Gates.{Literals, ClauseNumbers, order, order_numbers, turn, turn_numbers, unsigned, normal, normal_numbers}
-
--- both operands, one after the other
-pub turned_twice : (l : Literals) → turn false true (turn true false l) ≡ turn true true l
-turned_twice l = rw (signed_back true l.n)
+use Rattle.fold_laws.proofs.Signs.{signed_net}
+use Rattle.emit_laws.specs.Gates.{Literals, ClauseNumbers, order, order_numbers, turn_numbers, unsigned, normal, normal_numbers}
 
 -- operands without signs are over the same nets
 module _ (R : ℕ → ℕ) (o : Bool) (l u : Literals) (is : u ≡ unsigned R o l) (n : ℕ) where

@@ -15,9 +15,7 @@ pub fn start_links(work: &mut [u16], start: usize, inputs: usize)
     ensures stays { (t : List Entry) → HoldsTable work.old t → row_width * length t ≤ start → HoldsTable work.new t }
 {
     keep(work, start, 0, [1, 0, 0, 0]);
-    let mut k: usize = 0;
-    while k < inputs {
+    for k in 0..inputs {
         keep(work, start, 1 + k, [0, 0, 0, 0]);
-        k += 1;
     }
 }

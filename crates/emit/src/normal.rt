@@ -15,89 +15,52 @@ fn swap_and(d: DefinedGate) -> DefinedGate
     ensures literals { literals_of result ≡ model.order false (literals_of d) }
     ensures numbers { numbers_of result ≡ model.order_numbers false false (numbers_of d) }
 {
-    let n = d.n;
-    let x = d.x;
-    let y = d.y;
     DefinedGate {
-        n,
-        x: y,
-        y: x,
+        x: d.y,
+        y: d.x,
         a: d.b,
         b: d.a,
-        c: d.c,
-        d: d.d,
+        ..d
     }
 }
 
-// The operands of an XOR exchanged.
+// The operands of an XOR exchanged; not one function with the AND's, since other clauses change places.
 fn swap_xor(d: DefinedGate) -> DefinedGate
     ensures literals { literals_of result ≡ model.order false (literals_of d) }
     ensures numbers { numbers_of result ≡ model.order_numbers true false (numbers_of d) }
 {
-    let n = d.n;
-    let x = d.x;
-    let y = d.y;
     DefinedGate {
-        n,
-        x: y,
-        y: x,
-        a: d.a,
+        x: d.y,
+        y: d.x,
         b: d.c,
         c: d.b,
-        d: d.d,
+        ..d
     }
 }
 
-// The first operand of an XOR complemented, and the gate with it.
-fn turn_first(d: DefinedGate) -> DefinedGate
-    ensures literals { literals_of result ≡ model.turn true false (literals_of d) }
-    ensures numbers { numbers_of result ≡ model.turn_numbers true false (numbers_of d) }
-{
-    let y = d.y;
-    DefinedGate {
-        n: d.n.complement(),
-        x: d.x.complement(),
-        y,
-        a: d.c,
-        b: d.d,
-        c: d.a,
-        d: d.b,
-    }
-}
-
-// The second.
-fn turn_second(d: DefinedGate) -> DefinedGate
-    ensures literals { literals_of result ≡ model.turn false true (literals_of d) }
-    ensures numbers { numbers_of result ≡ model.turn_numbers false true (numbers_of d) }
-{
-    let x = d.x;
-    DefinedGate {
-        n: d.n.complement(),
-        x,
-        y: d.y.complement(),
-        a: d.b,
-        b: d.a,
-        c: d.d,
-        d: d.c,
-    }
-}
-
-// Each of them where its flag is set.
+// Each operand of an XOR complemented where its flag is set, and the gate with them.
 fn turn(d: DefinedGate, first: bool, second: bool) -> DefinedGate
     ensures literals { literals_of result ≡ model.turn first second (literals_of d) }
     ensures numbers { numbers_of result ≡ model.turn_numbers first second (numbers_of d) }
 {
-    if first {
-        let turned = turn_first(d);
-        if second {
-            return turn_second(turned);
-        }
-        return turned;
+    let n = d.n.complement_if(first != second);
+    let x = d.x.complement_if(first);
+    let y = d.y.complement_if(second);
+    let (a, b, c, d) = match (first, second) {
+        (false, false) => (d.a, d.b, d.c, d.d),
+        (true, false) => (d.c, d.d, d.a, d.b),
+        (false, true) => (d.b, d.a, d.d, d.c),
+        (true, true) => (d.d, d.c, d.b, d.a),
+    };
+    DefinedGate {
+        n,
+        x,
+        y,
+        a,
+        b,
+        c,
+        d,
     }
-    if second {
-        return turn_second(d);
-    }
-    d
 }
 
 // An AND in normal form.
@@ -105,7 +68,7 @@ pub fn normal_and(work: &[u16], d: DefinedGate) -> DefinedGate
     ensures { (t : List Entry) → HoldsTable work.now t → net_of d.x.code < length t → net_of d.y.code < length t
         → (literals_of result ≡ model.normal (rep_of t) false (literals_of d)) × (numbers_of result ≡ model.normal_numbers (rep_of t) false (literals_of d) (numbers_of d)) }
 {
-    if representative(work, d.x).code <= representative(work, d.y).code {
+    if representative(work, d.x) <= representative(work, d.y) {
         return d;
     }
     swap_and(d)
@@ -116,10 +79,10 @@ pub fn normal_xor(work: &[u16], d: DefinedGate) -> DefinedGate
     ensures { (t : List Entry) → HoldsTable work.now t → net_of d.x.code < length t → net_of d.y.code < length t
         → (literals_of result ≡ model.normal (rep_of t) true (literals_of d)) × (numbers_of result ≡ model.normal_numbers (rep_of t) true (literals_of d) (numbers_of d)) }
 {
-    let first = representative(work, d.x).sign() == 1;
-    let second = representative(work, d.y).sign() == 1;
+    let first = representative(work, d.x).sign();
+    let second = representative(work, d.y).sign();
     let unsigned = turn(d, first, second);
-    if representative(work, unsigned.x).code <= representative(work, unsigned.y).code {
+    if representative(work, unsigned.x) <= representative(work, unsigned.y) {
         return unsigned;
     }
     swap_xor(unsigned)

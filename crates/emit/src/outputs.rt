@@ -29,16 +29,16 @@ fn out(work: &[u16], start: usize, proof: &mut [u8], at: Derived, k: u16, x: u16
     ensures emits { (t : List Entry) (links : List (List ℕ)) → Known work.now start t links → net_of x < length links → net_of y < length links
         → Emits proof.old at proof.new result (out_tree (rep_of t) (link_of links) k (record { op = xor; x = x; y = y })) }
 {
-    let left = Literal::of(x);
-    let right = Literal::of(y);
+    let left = Literal::from(x);
+    let right = Literal::from(y);
     let p = representative(work, left);
     let not_x = left.complement();
     let not_y = right.complement();
-    if p.code == Literal::TRUE {
+    if p == Literal::TRUE {
         return subst2(work, start, proof, at, k + 3, not_x, not_y);
     }
     let first = subst2(work, start, proof, at, k, left, right);
-    if p.code == Literal::FALSE {
+    if p == Literal::FALSE {
         return first;
     }
     let fourth = subst2(work, start, proof, first, k + 3, not_x, not_y);
@@ -93,14 +93,12 @@ pub fn outputs(
     let first = outputs_of(text, pair, 0);
     let mut run = out(work, start, proof, at, kz, first.x, first.y);
     let mut w = z;
-    let mut i: u16 = 1;
-    while i < count {
+    for i in 1..count {
         let gate = outputs_of(text, pair, i as usize);
         let j = kw + 3 * (i - 1); // the clauses of the next w
         let k = kz + 4 * i; // of this z
         run = next_out(work, start, proof, run, w, j, z + i, k, gate.x, gate.y);
         w = first_w + (i - 1);
-        i += 1;
     }
     resolve_on(
         proof,

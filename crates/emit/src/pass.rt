@@ -24,8 +24,7 @@ use derivation::ands::and_gate;
 use derivation::gates::{DefinedGate, DerivedGate};
 use derivation::lines::Derived;
 use derivation::xors::xor_gate;
-use frame::Op;
-use listing::Gate;
+use frame::{Gate, Op};
 use literal::Literal;
 use miter::both::gate_of;
 use miter::clauses::{FIRST_GATE_CLAUSE, behind, first_behind, first_z_clause};
@@ -46,18 +45,12 @@ fn exchange_links(gate: DerivedGate, turned: bool) -> DerivedGate
     ensures same { (result.lines ≡ gate.lines) × (result.clauses ≡ gate.clauses) }
     ensures emits { (p q : List ℕ) (s : Derived) (ts : List Tree) → EmitsAll p s q gate ts → EmitsGate p s q result turned ts }
 {
-    if !turned {
+    if !turned || !gate.linked {
         return gate;
     }
-    if !gate.linked {
-        return gate;
-    }
-    let numbers = gate.numbers;
     DerivedGate {
-        lines: gate.lines,
-        clauses: gate.clauses,
-        linked: true,
-        numbers: [numbers[1], numbers[0], 0, 0],
+        numbers: [gate.numbers[1], gate.numbers[0], 0, 0],
+        ..gate
     }
 }
 
@@ -78,17 +71,11 @@ fn gate_lines(
     match op {
         Op::And => {
             let normal = normal_and(work, d);
-            exchange_links(
-                and_gate(work, start, proof, at, normal),
-                normal.n.sign() == 1,
-            )
+            exchange_links(and_gate(work, start, proof, at, normal), normal.n.sign())
         }
         Op::Xor => {
             let normal = normal_xor(work, d);
-            exchange_links(
-                xor_gate(work, start, proof, at, normal),
-                normal.n.sign() == 1,
-            )
+            exchange_links(xor_gate(work, start, proof, at, normal), normal.n.sign())
         }
     }
 }
@@ -111,8 +98,8 @@ fn one_gate(
     let op = gate.op;
     let d = DefinedGate {
         n: Literal::positive(v as u16),
-        x: Literal::of(gate.x),
-        y: Literal::of(gate.y),
+        x: Literal::from(gate.x),
+        y: Literal::from(gate.y),
         a: k,
         b: k + 1,
         c: k + 2,
@@ -151,11 +138,9 @@ fn gates(
     let first = pair.first_gate();
     let total = pair.left + pair.right;
     let mut done = at;
-    let mut i: usize = 0;
-    while i < total {
+    for i in 0..total {
         let gate = gate_of(text, pair, i);
         done = one_gate(work, start, proof, done, first + i, gate);
-        i += 1;
     }
     done
 }

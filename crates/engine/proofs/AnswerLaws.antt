@@ -1,10 +1,17 @@
 -- What is due to two lists, test by test, and to a text; and the promise from both.
-use Prim.Native.Nat.{ℕ, ◌+◌, ◌-◌, ◌*◌, ◌≤◌, ◌<◌}
+use Prim.Native.Nat.{ℕ, zero, suc, ◌+◌, ◌-◌, ◌*◌, ◌≤◌, ◌<◌}
 use mathlib.Core.Path.{◌≡◌, refl, sym, ap, ◌∙◌, subst}
-use mathlib.Core.List.{List, [], ◌∷◌}
+use mathlib.Core.List.{List, []}
 use native.Mathlib.Omega.{arith}
+use lib.Dec.{eqb}
 use lib.ListN.{length, length-replicate}
-use borrow.Author.Tests.{le-leb, lt-leb, eq-eqb, ne_eqb}
+use Rattle.std.specs.Prelude.{Some, None, Result, Ok, Err}
+use mathlib.Core.Bool.{false}
+use Rattle.std.specs.Result.{is_err}
+use Rattle.refusal.specs.declared.Refusal.{Refusal}
+use Rattle.refusal.specs.Answers.{answer_of}
+use Rattle.fold.specs.Entries.{numbered}
+use borrow.Author.Tests.{le-leb, lt-leb, ne_eqb}
 use Rattle.model.specs.Limits.{lines_per_gate, lines_per_output, proof_line_bytes, numbers_per_net}
 use Rattle.model.specs.Answers.{guard, bind, zeros, filled}
 use Rattle.model.specs.Answers.Answer.{ok, refused}
@@ -15,18 +22,11 @@ use Rattle.fold_laws.proofs.Engine.{differing_by_reps}
 use Rattle.emit_laws.specs.Text.{proof_text}
 use Rattle.emit_laws.specs.Proof.{proof_of}
 use Rattle.emit_laws.proofs.ProofLaws.{promised}
-use types.Run.{OneOf, miss}
-use denote.Enum.Declared.{tag_of}
 use Rattle.laws.specs.ListText.{text_of}
 use Rattle.netlist.specs.declared.Pair.{Pair}
-use Rattle.netlist.specs.contracts.Both as BothType
-use Rattle.netlist.specs.declared.Both.{Both}
-use Rattle.netlist.specs.declared.Both.TheVariants.{Paired, Refused}
-use Rattle.netlist.specs.Replies.{both_refusal, pair_reply, pair_of}
+use Rattle.netlist.specs.Replies.{pair_of}
 use Rattle.netlist.proofs.ReplyLaws.{TwoLists, two_none}
 use Rattle.miter.proofs.ListLaws.{lists_of_lem}
-use Rattle.engine.specs.declared.Proved.{Proved}
-use Rattle.engine.specs.declared.Proved.TheVariants as proved
 use Rattle.miter.specs.Miters as miters
 use Rattle.derivation.specs.Emission.{Written}
 use Rattle.engine.specs.Replies.{lists_of, due, FoldedSays, AnswerSays}
@@ -52,14 +52,26 @@ module _ {text : List ℕ} {p : Pair} (w : miters.PairStands text p) (bytes numb
     unfolding due guard
     due_17 h = rw (bound_is, le-leb _ _ enough, working_is are, lt-leb _ _ h)
 
-    module _ (wide : numbers_per_net * nets ≤ numbers) (k : ℕ) (is : k ≡ by_reps w.left w.right) where
-      pub due_18 : (k ≡ 0 → ⊥) → due bytes numbers l ≡ refused 18 k
+    module _ (wide : numbers_per_net * nets ≤ numbers) where
+      by_number : due bytes numbers l ≡ guard (eqb (by_reps w.left w.right) 0) 18 (by_reps w.left w.right) (ok l)
       unfolding due guard
-      due_18 h = rw (bound_is, le-leb _ _ enough, working_is are, le-leb _ _ wide, differing_by_reps w.left w.right w.alike, ← is, ne_eqb k 0 h)
+      by_number = rw (bound_is, le-leb _ _ enough, working_is are, le-leb _ _ wide, differing_by_reps w.left w.right w.alike)
 
-      pub due_proof : k ≡ 0 → due bytes numbers l ≡ ok l
-      unfolding due guard
-      due_proof h = rw (bound_is, le-leb _ _ enough, working_is are, le-leb _ _ wide, differing_by_reps w.left w.right w.alike, ← is, eq-eqb k 0 h)
+      pub due_18 : (k : ℕ) → Some k ≡ numbered (by_reps w.left w.right) → due bytes numbers l ≡ refused 18 k
+      unfolding guard
+      due_18 k e = by_number ∙ go (by_reps w.left w.right) e
+        where
+          go : (n : ℕ) → Some k ≡ numbered n → guard (eqb n 0) 18 n (ok l) ≡ refused 18 k
+          go zero e = cc
+          go (suc n) e = let same : k ≡ suc n = cc in rw (same, ne_eqb (suc n) 0 (λ z. absurd (omega arith)))
+
+      pub due_proof : None ≡ numbered (by_reps w.left w.right) → due bytes numbers l ≡ ok l
+      unfolding guard
+      due_proof e = by_number ∙ go (by_reps w.left w.right) e
+        where
+          go : (n : ℕ) → None ≡ numbered n → guard (eqb n 0) 18 n (ok l) ≡ ok l
+          go zero e = refl
+          go (suc n) e = cc
 
 -- ---- a text
 
@@ -68,17 +80,15 @@ unfolding provable due
 of_text text bytes numbers = refl
 
 -- where the lists are refused
-pub unread : (text : List ℕ) (bytes numbers : ℕ) (got : Both) → pair_reply got ≡ pair_of (read_lists text) → OneOf (1 ∷ []) (tag_of BothType.the_type got)
-    → provable text bytes numbers ≡ refused (both_refusal got).number (both_refusal got).line
-unread text bytes numbers (Paired p) e k = absurd (miss (1 ∷ []) 0 tt k)
-unread text bytes numbers (Refused r) e k = of_text text bytes numbers ∙ rw (two_none text r.number r.line e)
+pub unread : (text : List ℕ) (bytes numbers : ℕ) {number line : ℕ} → refused number line ≡ pair_of (read_lists text) → provable text bytes numbers ≡ refused number line
+unread text bytes numbers {number} {line} e = of_text text bytes numbers ∙ rw (two_none text number line e)
 
 -- where they are read
-pub answered : (text : List ℕ) (bytes numbers : ℕ) (p : Pair) (f : TwoLists text p) (proof : List ℕ) (r : Proved)
+pub answered : (text : List ℕ) (bytes numbers : ℕ) (p : Pair) (f : TwoLists text p) (proof : List ℕ) (r : Result ℕ Refusal)
     → FoldedSays (lists_of (lists_of_lem f.both)) bytes numbers proof r → AnswerSays text bytes numbers proof r
-answered text bytes numbers p f proof (proved.Lines n) h =
+answered text bytes numbers p f proof (Ok n) h =
     (lists_of (lists_of_lem f.both), of_text text bytes numbers ∙ (rw f.alone h.0), h.1, h.2)
-answered text bytes numbers p f proof (proved.Refused r) h = of_text text bytes numbers ∙ (rw f.alone h)
+answered text bytes numbers p f proof (Err r) h = of_text text bytes numbers ∙ (rw f.alone h)
 
 -- proof bytes that were cleared have no line
 pub none_written : {proof : List ℕ} (n : ℕ) → proof ≡ zeros n → Written proof []
@@ -88,9 +98,9 @@ none_written n e = let z : n - 0 ≡ n = omega arith in rw (e, length-replicate 
 -- ---- the promise
 
 module _ (text : List ℕ) (bytes numbers : ℕ) {proof work : List ℕ} (z : work ≡ zeros numbers) where
-  pub keeps_refusal : (number line : ℕ) → provable text bytes numbers ≡ refused number line → proof ≡ zeros bytes
+  pub keeps_refusal : {number line : ℕ} → provable text bytes numbers ≡ refused number line → proof ≡ zeros bytes
       → Engine text bytes numbers (refused number line) proof work
-  keeps_refusal number line e b = rw e (refl, b, z)
+  keeps_refusal e b = rw e (refl, b, z)
 
   pub keeps_proof : (l : Lists) (n : ℕ) → provable text bytes numbers ≡ ok l → Written proof (proof_of l) → length proof ≡ bytes → n ≡ length (proof_of l)
       → Engine text bytes numbers (ok n) proof work
@@ -98,3 +108,9 @@ module _ (text : List ℕ) (bytes numbers : ℕ) {proof work : List ℕ} (z : wo
       let q = rw e at (promised text bytes numbers) in
       let b : proof ≡ filled bytes (proof_text (proof_of l)) = w ∙ ap (λ (k : ℕ). filled k (proof_text (proof_of l))) m in
       rw (e, c, z) (subst (λ (x : List ℕ). Outcome text bytes numbers (ok l) (ok (length (proof_of l))) x (zeros numbers)) (sym b) q)
+
+-- an answer that is no refusal
+pub keeps_answer : (text : List ℕ) (bytes numbers : ℕ) (proof work : List ℕ) → work ≡ zeros numbers → (r : Result ℕ Refusal) → is_err r ≡ false
+    → AnswerSays text bytes numbers proof r → length proof ≡ bytes → Engine text bytes numbers (answer_of r) proof work
+keeps_answer text bytes numbers proof work z (Ok n) e h m = keeps_proof text bytes numbers z h.0 n h.1 h.2 m h.3
+keeps_answer text bytes numbers proof work z (Err r) e h m = cc

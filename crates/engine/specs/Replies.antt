@@ -1,21 +1,17 @@
--- The engine's reply, and what its answer says.
-use Rattle.std.specs.Prelude.{ℕ, ◌*◌, ◌≡◌, List, length, eqb, leb}
+-- What the engine's answer says.
+use Rattle.std.specs.Prelude.{ℕ, ◌*◌, ◌≡◌, List, length, eqb, leb, Result, Ok, Err}
 use Rattle.model.specs.Limits.{proof_line_bytes}
 use Rattle.model.specs.Answers.{Answer, guard}
-use Rattle.model.specs.Answers.Answer.{ok, refused}
+use Rattle.model.specs.Answers.Answer.{ok}
 use Rattle.model.specs.Lists.{Lists}
 use Rattle.model.specs.Forms.{differing}
 use Rattle.model.specs.Engine.{line_bound, working, provable}
 use Rattle.emit_laws.specs.Proof.{proof_of}
+use Rattle.refusal.specs.declared.Refusal.{Refusal}
+use Rattle.refusal.specs.Answers.{refused_by}
 use Rattle.netlist.specs.declared.Pair.{Pair}
 use Rattle.miter.specs.Miters as miters
 use Rattle.derivation.specs.Emission.{Written}
-use Rattle.engine.specs.declared.Proved.{Proved}
-use Rattle.engine.specs.declared.Proved.TheVariants.{Lines, Refused}
-
-abbrev pub proved_of : Proved → Answer ℕ
-proved_of (Lines n) = ok n
-proved_of (Refused r) = refused r.number r.line
 
 -- the lists that a text has, as the definitions have them
 abbrev pub lists_of : {text : List ℕ} {p : Pair} → miters.PairStands text p → Lists
@@ -30,11 +26,11 @@ due bytes numbers l =
     (ok l)))
 
 -- a proof is due to the lists l, and its lines are written; or the refusal that is due
-abbrev pub FoldedSays : Lists → ℕ → ℕ → List ℕ → Proved → Type 0
-FoldedSays l bytes numbers proof (Lines n) = (due bytes numbers l ≡ ok l) × Written proof (proof_of l) × (n ≡ length (proof_of l))
-FoldedSays l bytes numbers proof (Refused r) = due bytes numbers l ≡ refused r.number r.line
+abbrev pub FoldedSays : Lists → ℕ → ℕ → List ℕ → Result ℕ Refusal → Type 0
+FoldedSays l bytes numbers proof (Ok n) = (due bytes numbers l ≡ ok l) × Written proof (proof_of l) × (n ≡ length (proof_of l))
+FoldedSays l bytes numbers proof (Err r) = due bytes numbers l ≡ refused_by r
 
 -- the same of a text
-abbrev pub AnswerSays : List ℕ → ℕ → ℕ → List ℕ → Proved → Type 0
-AnswerSays text bytes numbers proof (Lines n) = (l : Lists) × (provable text bytes numbers ≡ ok l) × Written proof (proof_of l) × (n ≡ length (proof_of l))
-AnswerSays text bytes numbers proof (Refused r) = provable text bytes numbers ≡ refused r.number r.line
+abbrev pub AnswerSays : List ℕ → ℕ → ℕ → List ℕ → Result ℕ Refusal → Type 0
+AnswerSays text bytes numbers proof (Ok n) = (l : Lists) × (provable text bytes numbers ≡ ok l) × Written proof (proof_of l) × (n ≡ length (proof_of l))
+AnswerSays text bytes numbers proof (Err r) = provable text bytes numbers ≡ refused_by r

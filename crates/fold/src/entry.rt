@@ -3,28 +3,16 @@ ghost use Rattle.std.specs.Prelude.{◌≡◌, Bool, true, List, length};
 ghost use Rattle.model.specs.Nets.{reads_below};
 ghost use Rattle.listing.specs.Listing.{gate_meant};
 ghost use Rattle.fold_laws.specs.Cases.Made.{key};
-ghost use Rattle.fold_laws.specs.Signs as signs;
 ghost use Rattle.fold_laws.specs.Table as model;
 ghost use Rattle.table.specs.Rows.{entry_of};
 ghost use Rattle.table.specs.Buckets.{Indexed, Among};
 ghost use Rattle.fold.specs.Entries.{folded_of};
 
 use crate::operands::{Folded, and_of, xor_of};
-use frame::Op;
-use listing::Gate;
+use frame::{Gate, Op};
 use literal::Literal;
 use table::buckets::find;
 use table::rows::{AND, Entry, XOR, core_of, keyless, representative};
-
-// The literal, complemented where the sign is set.
-fn signed(sign: bool, l: Literal) -> Literal
-    ensures { result.code ≡ signs.signed sign l.code }
-{
-    if sign {
-        return l.complement();
-    }
-    l
-}
 
 // The entry of net v of this key, where its literal of this sign is the AND or XOR of the key: of the first net that has it, or its own.
 fn found(
@@ -40,17 +28,19 @@ fn found(
     ensures { (t : List model.Entry) (k : Bool) → Indexed work.now nets t → length t ≡ v → kind ≡ model.kind_of k
         → entry_of result ≡ model.enter t k sign (key a.code b.code) }
 {
-    let u = find(work, nets, v, kind, a, b);
-    if u < v {
-        return keyless(signed(sign, core_of(work, u)), kind);
-    }
-    let own = Literal::positive(v as u16);
-    Entry {
-        rep: own,
-        kind,
-        ka: a,
-        kb: b,
-        core: signed(sign, own),
+    match find(work, nets, v, kind, a, b) {
+        // that the net is below v is known of a table alone, and `core_of` asks it of any numbers
+        Some(u) if u < v => keyless(core_of(work, u).complement_if(sign), kind),
+        _ => {
+            let own = Literal::positive(v as u16);
+            Entry {
+                rep: own,
+                kind,
+                ka: a,
+                kb: b,
+                core: own.complement_if(sign),
+            }
+        }
     }
 }
 
@@ -60,7 +50,7 @@ fn entered(work: &[u16], nets: usize, v: usize, kind: u16, sign: bool, folded: F
     ensures { (t : List model.Entry) (k : Bool) → Indexed work.now nets t → length t ≡ v → kind ≡ model.kind_of k → entry_of result ≡ model.enter t k sign (folded_of folded) }
 {
     match folded {
-        Folded::Is(l) => keyless(signed(sign, l), kind),
+        Folded::Is(l) => keyless(l.complement_if(sign), kind),
         Folded::Key(a, b) => found(work, nets, v, kind, sign, a, b),
     }
 }
@@ -70,10 +60,9 @@ pub fn entry(work: &[u16], nets: usize, v: usize, gate: Gate) -> Entry
     requires { Among (length work.now) nets v }
     ensures { (t : List model.Entry) → Indexed work.now nets t → length t ≡ v → reads_below v (gate_meant gate) ≡ true → entry_of result ≡ model.entry t (gate_meant gate) }
 {
-    let p = representative(work, Literal::of(gate.x));
-    let q = representative(work, Literal::of(gate.y));
-    let op = gate.op;
-    match op {
+    let p = representative(work, Literal::from(gate.x));
+    let q = representative(work, Literal::from(gate.y));
+    match gate.op {
         Op::And => entered(work, nets, v, AND, false, and_of(p, q)),
         Op::Xor => entered(work, nets, v, XOR, p.sign() != q.sign(), xor_of(p, q)),
     }

@@ -6,6 +6,7 @@ ghost use Rattle.fold_laws.specs.Engine.{both_table, by_reps};
 ghost use Rattle.table.specs.Rows.{HoldsTable};
 ghost use Rattle.table.specs.Buckets.{Indexed, Among};
 ghost use Rattle.miter.specs.Miters.{PairStands};
+ghost use Rattle.fold.specs.Entries.{numbered};
 
 use crate::entry::entry;
 use literal::Literal;
@@ -20,10 +21,8 @@ fn set_bases(work: &mut [u16], nets: usize, inputs: usize)
     ensures { Indexed work.new nets (model.bases 0 (1 + inputs)) }
 {
     empty(work, nets);
-    let mut k: usize = 0;
-    while k < 1 + inputs {
+    for k in 0..1 + inputs {
         insert(work, nets, k, keyless(Literal::positive(k as u16), 0));
-        k += 1;
     }
 }
 
@@ -36,31 +35,26 @@ pub fn fold(text: &[u8], pair: Pair, work: &mut [u16])
     let gates = pair.left + pair.right;
     let nets = pair.nets();
     set_bases(work, nets, pair.inputs);
-    let mut k: usize = 0;
-    while k < gates {
+    for k in 0..gates {
         let v = first + k;
         let gate = gate_of(text, pair, k);
         let own = entry(work, nets, v, gate);
         insert(work, nets, v, own);
-        k += 1;
     }
 }
 
-// The first output whose representatives differ, from 1, or 0.
-pub fn first_apart(text: &[u8], pair: Pair, work: &[u16]) -> usize
+// The first output whose representatives differ, from 1.
+pub fn first_apart(text: &[u8], pair: Pair, work: &[u16]) -> Option<usize>
     requires { PairStands text.now pair }
-    ensures { (w : PairStands text.now pair) → HoldsTable work.now (both_table w.left w.right) → result ≡ by_reps w.left w.right }
+    ensures { (w : PairStands text.now pair) → HoldsTable work.now (both_table w.left w.right) → result ≡ numbered (by_reps w.left w.right) }
 {
-    let outputs = pair.outputs;
-    let mut k: usize = 0;
-    while k < outputs {
+    for k in 0..pair.outputs {
         let gate = outputs_of(text, pair, k);
-        let x = representative(work, Literal::of(gate.x));
-        let y = representative(work, Literal::of(gate.y));
-        k += 1;
-        if x.code != y.code {
-            return k;
+        let x = representative(work, Literal::from(gate.x));
+        let y = representative(work, Literal::from(gate.y));
+        if x != y {
+            return Some(k + 1);
         }
     }
-    0
+    None
 }

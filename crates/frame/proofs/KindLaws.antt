@@ -1,12 +1,13 @@
 -- Laws of kinds: the kind that two digits spell, the kind of a line, and a line that has none.
 use Prim.Native.Nat.{ℕ, suc, ◌+◌, ◌*◌, ◌/◌, ◌%◌, ◌<◌, ◌≤◌}
 use mathlib.Core.Path.{◌≡◌, refl, sym, ap, ◌∙◌}
-use mathlib.Core.List.{List, [], ◌∷◌}
+use mathlib.Core.List.{List}
 use mathlib.Core.Logic.{◌⊎◌, inl, inr}
 use mathlib.Core.Bool.{Bool, true, false, cond}
 use native.Mathlib.Omega.{arith}
-use types.Run.{OneOf, miss}
-use denote.Enum.Declared.{tag_of}
+use Rattle.std.specs.Prelude.{Option, Some, None}
+use Rattle.std.specs.Option.{ok_or}
+use Rattle.std.proofs.lemmas.List.Sums.{prefix_len-le-length}
 use lib.ListN.{length, take, drop, get_or, length-drop}
 use lib.Dec.{eqb, ltb}
 use borrow.Author.Tests.{ltb-true, ltb-false, eqb-true, eqb-false, ne_eqb}
@@ -14,33 +15,23 @@ use Rattle.model.specs.Answers.{Answer}
 use Rattle.model.specs.Answers.Answer.{ok, refused}
 use Rattle.model.specs.Lines as model
 use Rattle.model.specs.Lines.{is_digit, digit_of, line_feed, lines}
-use Rattle.model.specs.Frames.{Frame, widths, is_kind, number, one_byte, decode_as, decode, output_kind}
+use Rattle.model.specs.Frames.{Frame, widths, is_kind, number, one_byte, decode_as, decode}
 use Rattle.laws.specs.Digits.{byte_read}
 use Rattle.laws.specs.Answers.{ok_injective, refused_not_ok, guard_ok}
 use Rattle.digits.specs.Digits.{value_of, values, run, number_at}
 use Rattle.digits.proofs.DigitLaws.{value_back, run_more, run_stop, byte_number}
-use Rattle.frame.specs.contracts.kinds.Kind as KindType
 use Rattle.frame.specs.declared.Op.{Op}
 use Rattle.frame.specs.declared.Op.TheVariants.{And, Xor}
 use Rattle.frame.specs.declared.kinds.Kind.{Kind}
-use Rattle.frame.specs.declared.kinds.Kind.TheVariants.{Header, Gate, Output, Resolve, Extend, Report, Unknown}
-use Rattle.frame.specs.Frames.{first, first_in, gate_kind}
+use Rattle.frame.specs.declared.kinds.Kind.TheVariants.{Header, Gate, Output, Resolve, Extend, Report}
+use Rattle.refusal.specs.declared.Reason.TheVariants.{Frame as Wrong}
+use Rattle.frame.specs.Frames.{first, first_in}
 use Rattle.frame.specs.Frames.First.{found}
-use Rattle.frame.specs.Kinds.{operands_kind, IsOp, ByKind, Spell, Named, IsKind, KindAt, KindSays, Unframed}
+use Rattle.frame.specs.Kinds.{operands_kind, byte_of, IsOp, Spell, Named, IsKind, KindAt, KindSays, Unframed}
 use Rattle.frame.proofs.DecodeLaws.{no_kind, short}
 use Rattle.frame.proofs.FieldLaws.{part_long, kind_spelt}
 use Rattle.frame.proofs.FirstLaws.{none_found, found_fault}
 use Rattle.frame.proofs.LineLaws.{read_end, read_open, read_other, read_whole}
-
--- what follows of each kind's byte, and of one outside the table, follows of the kind
-by_kind : {P Q : ℕ → Type 0} {A B : Type 0} → ((kind : ℕ) → P kind → Q kind) → (A → B) → (k : Kind) → ByKind P A k → ByKind Q B k
-by_kind f g Header h = f _ h
-by_kind f g (Gate op) h = f _ h
-by_kind f g Output h = f _ h
-by_kind f g Resolve h = f _ h
-by_kind f g (Extend op) h = f _ h
-by_kind f g Report h = f _ h
-by_kind f g Unknown h = g h
 
 -- ---- two digits
 
@@ -65,18 +56,18 @@ module _ (high low : ℕ) (hb : high < 256) (lb : low < 256) where
       rw (o.xor l) (named a 51 ha (omega arith) e (omega arith) ia refl (rw v xor))
 
   -- digits that do not spell a number of the table
-  pub not_spelt : {spelt : ℕ} (p q : ℕ) → p < 16 → q < 16 → spelt ≡ 256 * low + high → (spelt ≡ 256 * digit_of q + digit_of p → ⊥) → is_digit high ≡ true → is_digit low ≡ true
+  pub not_spelt : (p q : ℕ) → p < 16 → q < 16 → (256 * low + high ≡ 256 * digit_of q + digit_of p → ⊥) → is_digit high ≡ true → is_digit low ≡ true
       → eqb (16 * value_of high + value_of low) (16 * p + q) ≡ false
-  not_spelt p q hp hq e not ih il =
+  not_spelt p q hp hq not ih il =
       let h = value_back high ih in
       let l = value_back low il in
       ne_eqb _ _ (λ (s : 16 * value_of high + value_of low ≡ 16 * p + q).
       let u : value_of high ≡ p = omega (arith, h.0, l.0) in
       let v : value_of low ≡ q = omega (arith, h.0, l.0) in
-      not (e ∙ rw (← u, ← v, h.1, l.1)))
+      not (rw (← u, ← v, h.1, l.1)))
 
 -- the digits of a byte
-pub named_byte : (byte high low : ℕ) → byte < 256 → high ≡ digit_of (byte / 16) → low ≡ digit_of (byte % 16) → (k : Kind) → Named high low k → IsKind byte k
+pub named_byte : (byte high low : ℕ) → byte < 256 → high ≡ digit_of (byte / 16) → low ≡ digit_of (byte % 16) → (k : Option Kind) → Named high low k → IsKind byte (ok_or k Wrong)
 unfolding value_of
 named_byte byte high low h eh el k n =
     let a = byte_read (byte / 16) (omega arith) in
@@ -86,7 +77,11 @@ named_byte byte high low h eh el k n =
     let vh : value_of high ≡ byte / 16 = rw (eh, a.is_one) a.value in
     let vl : value_of low ≡ byte % 16 = rw (el, b.is_one) b.value in
     let e : 16 * value_of high + value_of low ≡ byte = omega arith in
-    by_kind {P = Spell high low} {Q = λ (kind : ℕ). byte ≡ kind} (λ kind s. sym (s.spelt ∙ e)) (λ none. rw e at (none ih il)) k n
+    go k n ih il e
+  where
+    go : (k : Option Kind) → Named high low k → is_digit high ≡ true → is_digit low ≡ true → 16 * value_of high + value_of low ≡ byte → IsKind byte (ok_or k Wrong)
+    go (Some k) s ih il e = sym (s.spelt ∙ e)
+    go None none ih il e = (refl, rw e at (none ih il))
 
 -- ---- the kind of a line
 
@@ -113,20 +108,36 @@ module _ (text : List ℕ) (at : ℕ) (room : at + one_byte ≤ length text) whe
           let one = run_stop text at (omega arith) t in
           short (take n (drop at text)) line (omega (arith, part_long text at n h))
 
-  pub kind_says : (k : Kind) → Named (get_or text at 0) (get_or text (at + 1) 0) k → KindSays text at k
-  kind_says k h = by_kind known unknown k h
+  pub kind_says : (k : Option Kind) → Named (get_or text at 0) (get_or text (at + 1) 0) k → KindSays text at k
+  kind_says (Some k) s = known (byte_of k) s
+  kind_says None none = unknown none
 
 -- less than two bytes
 pub unframed_short : (text : List ℕ) (at : ℕ) → length text < at + one_byte → Unframed text at
 unframed_short text at r n line e h f = short (take n (drop at text)) line (omega (arith, part_long text at n h))
 
-run_fits : (s : List ℕ) → run s ≤ length s
-run_fits [] = omega arith
-run_fits (b ∷ s) = go (is_digit b) (run_fits s)
-  where
-    go : (t : Bool) → run s ≤ length s → cond t (suc (run s)) 0 ≤ suc (length s)
-    go true h = omega arith
-    go false h = omega arith
+-- ---- the kind of a byte
+
+abbrev kind_back : ℕ → Option Kind
+kind_back n =
+    cond (eqb n 1) (Some Header)
+    (cond (eqb n 2) (Some (Gate And))
+    (cond (eqb n 3) (Some (Gate Xor))
+    (cond (eqb n 4) (Some Output)
+    (cond (eqb n 17) (Some Resolve)
+    (cond (eqb n 18) (Some (Extend And))
+    (cond (eqb n 19) (Some (Extend Xor))
+    (Some Report)))))))
+
+back : (k : Kind) → kind_back (byte_of k) ≡ Some k
+back Header = refl
+back (Gate And) = refl
+back (Gate Xor) = refl
+back Output = refl
+back Resolve = refl
+back (Extend And) = refl
+back (Extend Xor) = refl
+back Report = refl
 
 -- ---- a line that has a frame
 
@@ -157,7 +168,7 @@ module _ (text : List ℕ) (at line : ℕ) {f : Frame} {ls : List model.Line} {n
           let l = eqb-true (get_or text (at + n) 0) line_feed d in
           record { inside = h; feed = l; frame = same _ (e ∙ read_whole text at line n refl h l) }
       go _ true b false d = absurd (found_fault (e ∙ read_other text at line n refl (ltb-true (at + n) (length text) b) (eqb-false (get_or text (at + n) 0) line_feed d)))
-      go m false b d _ = absurd (found_fault (e ∙ read_open text at line n refl (omega arith) (omega (arith, ltb-false (at + n) (length text) b, rw length-drop at (run_fits (drop at text))))))
+      go m false b d _ = absurd (found_fault (e ∙ read_open text at line n refl (omega arith) (omega (arith, ltb-false (at + n) (length text) b, rw length-drop at (prefix_len-le-length is_digit (drop at text))))))
 
       start : (t : Bool) → eqb at (length text) ≡ t → Decoded text at line f
       start true t = absurd (none_found (sym (e ∙ read_end text at line n refl (omega (arith, eqb-true at (length text) t)))))
@@ -176,35 +187,7 @@ module _ (text : List ℕ) (at line : ℕ) {f : Frame} {ls : List model.Line} {n
       let d = found_decoded in
       refused_not_ok (u (run (drop at text)) line refl d.inside d.feed ∙ d.frame)
 
-  -- so a gate's line is of no other kind
-  pub only_gate : (op : Op) → f.kind ≡ gate_kind op → (k : Kind) → OneOf (0 ∷ 2 ∷ 3 ∷ 4 ∷ 5 ∷ 6 ∷ []) (tag_of KindType.the_type k) → KindSays text at k → ⊥
-  only_gate op is k t says = go op is k t says
-    where
-      low : (op : Op) → f.kind ≡ gate_kind op → {kind : ℕ} → KindAt text at kind → (2 ≤ kind) × (kind ≤ 3)
-      low And is k = let e = found_kind k in (omega arith, omega arith)
-      low Xor is k = let e = found_kind k in (omega arith, omega arith)
-
-      go : (op : Op) → f.kind ≡ gate_kind op → (k : Kind) → OneOf (0 ∷ 2 ∷ 3 ∷ 4 ∷ 5 ∷ 6 ∷ []) (tag_of KindType.the_type k) → KindSays text at k → ⊥
-      go op is Header t s = omega (arith, low op is s)
-      go op is (Gate o) t s = miss (0 ∷ 2 ∷ 3 ∷ 4 ∷ 5 ∷ 6 ∷ []) 1 tt t
-      go op is Output t s = omega (arith, low op is s)
-      go op is Resolve t s = omega (arith, low op is s)
-      go op is (Extend And) t s = omega (arith, low op is s)
-      go op is (Extend Xor) t s = omega (arith, low op is s)
-      go op is Report t s = omega (arith, low op is s)
-      go op is Unknown t s = found_framed s
-
-  -- nor an output's
-  pub only_output : f.kind ≡ output_kind → (k : Kind) → OneOf (0 ∷ 1 ∷ 3 ∷ 4 ∷ 5 ∷ 6 ∷ []) (tag_of KindType.the_type k) → KindSays text at k → ⊥
-  only_output is k t says = go k t says
-    where
-      go : (k : Kind) → OneOf (0 ∷ 1 ∷ 3 ∷ 4 ∷ 5 ∷ 6 ∷ []) (tag_of KindType.the_type k) → KindSays text at k → ⊥
-      go Header t s = omega (arith, found_kind s)
-      go (Gate And) t s = omega (arith, found_kind s)
-      go (Gate Xor) t s = omega (arith, found_kind s)
-      go Output t s = miss (0 ∷ 1 ∷ 3 ∷ 4 ∷ 5 ∷ 6 ∷ []) 2 tt t
-      go Resolve t s = omega (arith, found_kind s)
-      go (Extend And) t s = omega (arith, found_kind s)
-      go (Extend Xor) t s = omega (arith, found_kind s)
-      go Report t s = omega (arith, found_kind s)
-      go Unknown t s = found_framed s
+  -- so its kind is no other
+  pub only : (due : Kind) → f.kind ≡ byte_of due → (k : Option Kind) → KindSays text at k → k ≡ Some due
+  only due is (Some k) s = sym (back k) ∙ ap kind_back (sym (found_kind s) ∙ is) ∙ back due
+  only due is None s = absurd (found_framed s)

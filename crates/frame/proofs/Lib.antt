@@ -7,3 +7,4 @@ pub mod WriteLaws
 pub mod PutLaws
 pub mod RoundTrip
 pub mod FirstLaws
+pub mod RowLaws

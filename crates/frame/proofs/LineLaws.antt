@@ -5,6 +5,7 @@ use mathlib.Core.Path.{◌≡◌, refl, sym, ◌∙◌}
 use mathlib.Core.List.{List, [], ◌∷◌}
 use mathlib.Core.Bool.{Bool, true, false, cond}
 use native.Mathlib.Omega.{arith}
+use native.Mathlib.Numerals.{one-add}
 use lib.ListN.{length, take, drop, get_or, length-drop, drop_of_length-le}
 use lib.Seq.{get_or-drop, drop-drop}
 use borrow.Author.Tests.{eq-eqb, ne_eqb}
@@ -35,7 +36,7 @@ lines_open (b ∷ []) h e = go (is_digit b) refl e
     go false i e = absurd (omega arith)
 lines_open (b ∷ a ∷ s) h e = go (lines_open (a ∷ s) (omega arith)) (is_digit b) refl e
   where
-    go : (run (a ∷ s) ≡ suc (length s) → lines (a ∷ s) ≡ faulty ∷ []) → (d : Bool) → is_digit b ≡ d → cond d (suc (run (a ∷ s))) 0 ≡ suc (suc (length s))
+    go : (run (a ∷ s) ≡ suc (length s) → lines (a ∷ s) ≡ faulty ∷ []) → (d : Bool) → is_digit b ≡ d → cond d (1 + run (a ∷ s)) 0 ≡ suc (suc (length s))
         → lines (b ∷ a ∷ s) ≡ faulty ∷ []
     go r true i e = lines_digit b (a ∷ s) faulty [] i (r (omega arith))
     go r false i e = absurd (omega arith)
@@ -52,10 +53,10 @@ unfolding lines
 lines_other [] h n = absurd (omega arith)
 lines_other (b ∷ s) h n = go (lines_other s) (is_digit b) refl h n
   where
-    go : (run s < length s → (get_or s (run s) 0 ≡ line_feed → ⊥) → (rest : List Line) × (lines s ≡ faulty ∷ rest)) → (d : Bool) → is_digit b ≡ d → cond d (suc (run s)) 0 < suc (length s) → (get_or (b ∷ s) (cond d (suc (run s)) 0) 0 ≡ line_feed → ⊥)
+    go : (run s < length s → (get_or s (run s) 0 ≡ line_feed → ⊥) → (rest : List Line) × (lines s ≡ faulty ∷ rest)) → (d : Bool) → is_digit b ≡ d → cond d (1 + run s) 0 < suc (length s) → (get_or (b ∷ s) (cond d (1 + run s) 0) 0 ≡ line_feed → ⊥)
         → (rest : List Line) × (lines (b ∷ s) ≡ faulty ∷ rest)
     go f true i h n =
-        let r = f (omega arith) n in
+        let r = f (omega arith) (λ z. n (rw one-add z)) in
         (r.0, lines_digit b s faulty r.0 i r.1)
     go f false i h n =
         let r = faulty_byte b (lines s) i in
@@ -67,11 +68,11 @@ unfolding lines value_of
 lines_whole [] h e = absurd (omega arith)
 lines_whole (b ∷ s) h e = go (lines_whole s) (is_digit b) refl h e
   where
-    go : (run s < length s → get_or s (run s) 0 ≡ line_feed → lines s ≡ digits (values (take (run s) s)) ∷ lines (drop (suc (run s)) s)) → (d : Bool) → is_digit b ≡ d → cond d (suc (run s)) 0 < suc (length s) → get_or (b ∷ s) (cond d (suc (run s)) 0) 0 ≡ line_feed
-        → lines (b ∷ s) ≡ digits (values (take (cond d (suc (run s)) 0) (b ∷ s))) ∷ lines (drop (cond d (suc (run s)) 0) s)
+    go : (run s < length s → get_or s (run s) 0 ≡ line_feed → lines s ≡ digits (values (take (run s) s)) ∷ lines (drop (suc (run s)) s)) → (d : Bool) → is_digit b ≡ d → cond d (1 + run s) 0 < suc (length s) → get_or (b ∷ s) (cond d (1 + run s) 0) 0 ≡ line_feed
+        → lines (b ∷ s) ≡ digits (values (take (cond d (1 + run s) 0) (b ∷ s))) ∷ lines (drop (cond d (1 + run s) 0) s)
     go f true i h e =
-        lines_digit b s (digits (values (take (run s) s))) (lines (drop (suc (run s)) s)) i (f (omega arith) e)
-        ∙ rw i
+        rw one-add
+        (lines_digit b s (digits (values (take (run s) s))) (lines (drop (suc (run s)) s)) i (f (omega arith) (rw one-add at e)) ∙ rw i)
     go f false i h e = rw (eq-eqb b line_feed e)
 
 -- ---- reading at a place, with n digits there

@@ -7,8 +7,8 @@ use Rattle.model.specs.Answers.{Answer, bind}
 use Rattle.model.specs.Answers.Answer.{ok, refused}
 use Rattle.model.specs.Lines.{Line, lines}
 use Rattle.model.specs.Frames.{Frame, frame_at, end_at, lone_of, lone_line}
-use Rattle.frame.specs.declared.Line as code
-use Rattle.frame.specs.declared.Line.TheVariants.{Read}
+use Rattle.std.specs.Prelude.{Option, Some, Result, Ok}
+use Rattle.refusal.specs.declared.Refusal.{Refusal}
 use Rattle.frame.specs.declared.Cursor.{Cursor}
 use Rattle.frame.specs.declared.Frame as CodeFrame
 use Rattle.frame.specs.Frames.{First, first, first_in, first_of, frame_of}
@@ -45,11 +45,12 @@ lone_by_lem (l ∷ ls) = go (frame_at l 1)
     go (refused number place) = refl
 
 -- by what the reader finds at the start
-pub lone : (text : List ℕ) (r : code.Line) → first_of text r ≡ first (lines text) 1 → lone_by (first_of text r) ≡ lone_line text
+pub lone : (text : List ℕ) (r : Result (Option (CodeFrame.Frame × Cursor)) Refusal) → first_of text r ≡ first (lines text) 1 → lone_by (first_of text r) ≡ lone_line text
 unfolding lone_line
 lone text r e = ap lone_by e ∙ sym (lone_by_lem (lines text))
 
 -- where a frame stands there, by what the reader finds behind it
-pub lone_behind : (text : List ℕ) (r second : code.Line) (f : CodeFrame.Frame) (next : Cursor) → first_of text r ≡ first (lines text) 1 → r ≡ Read f next
-    → first_of text second ≡ first (lines (drop next.at text)) next.line → end_by (first_of text second) next.line (frame_of f) ≡ lone_line text
-lone_behind text r second f next e is e' = ap (λ (x : First). end_by x next.line (frame_of f)) e' ∙ (rw is at (lone text r e))
+pub lone_behind : (text : List ℕ) (f : CodeFrame.Frame) (next : Cursor) (second : Result (Option (CodeFrame.Frame × Cursor)) Refusal)
+    → first_of text (Ok (Some (f, next))) ≡ first (lines text) 1 → first_of text second ≡ first (lines (drop next.at text)) next.line
+    → end_by (first_of text second) next.line (frame_of f) ≡ lone_line text
+lone_behind text f next second e e' = ap (λ (x : First). end_by x next.line (frame_of f)) e' ∙ lone text (Ok (Some (f, next))) e

@@ -19,10 +19,8 @@ use Rattle.laws.specs.RoundTrip.{Proper, buffer_read, buffer_written}
 use Rattle.frame.specs.declared.Op.TheVariants.{And, Xor}
 use Rattle.frame.specs.declared.Frame.{Frame}
 use Rattle.frame.specs.declared.Frame.TheVariants.{Header, Gate, Output, Resolve, Extend, Report}
-use Rattle.frame.specs.declared.Decoded.{Decoded}
-use Rattle.frame.specs.declared.Decoded.TheVariants.{Framed, Fault}
-use Rattle.frame.specs.declared.Written.{Written}
-use Rattle.frame.specs.declared.Written.TheVariants.{Done}
+use Rattle.std.specs.Prelude.{Result, Ok, Err}
+use Rattle.refusal.specs.declared.Refusal.{Refusal}
 use Rattle.frame.specs.Frames.{frame_of, decoded_of, written_of}
 
 -- ---- frames of the enum
@@ -69,16 +67,16 @@ frame_back_lem (Extend And x y) = refl
 frame_back_lem (Extend Xor x y) = refl
 frame_back_lem (Report r n s c) = refl
 
-framed : (r : Decoded) (f : Frame) → decoded_of r ≡ ok (frame_of f) → r ≡ Framed f
-framed (Framed g) f e = ap Framed (sym (frame_back_lem g) ∙ ap frame_back (ok_injective e) ∙ frame_back_lem f)
-framed (Fault number line) f e = absurd (refused_not_ok e)
+framed : (r : Result Frame Refusal) (f : Frame) → decoded_of r ≡ ok (frame_of f) → r ≡ Ok f
+framed (Ok g) f e = ap Ok (sym (frame_back_lem g) ∙ ap frame_back (ok_injective e) ∙ frame_back_lem f)
+framed (Err why) f e = absurd (refused_not_ok e)
 
 -- ---- the calls
 
 -- What `write_frame` wrote into a buffer of this length, with this reply, `read_frame` reads from the bytes that it wrote.
-pub written_is_read : (f : Frame) (room n : ℕ) (buffer : List ℕ) (r : Decoded) → Ranged f
-    → written_of (Done n) ≡ model.write_frame (frame_of f) room → buffer ≡ model.written_frame (frame_of f) room
-    → decoded_of r ≡ model.lone_line (take n buffer) → r ≡ Framed f
+pub written_is_read : (f : Frame) (room n : ℕ) (buffer : List ℕ) (r : Result Frame Refusal) → Ranged f
+    → written_of (Ok n) ≡ model.write_frame (frame_of f) room → buffer ≡ model.written_frame (frame_of f) room
+    → decoded_of r ≡ model.lone_line (take n buffer) → r ≡ Ok f
 unfolding model.write_frame
 written_is_read f room n buffer r h replied left read =
     let g = guard_ok (leb (model.stated_line (frame_of f)) highest_line && leb (length (model.line_of (frame_of f))) room) 16 0 (ok (length (model.line_of (frame_of f)))) (sym replied) in
@@ -87,8 +85,8 @@ written_is_read f room n buffer r h replied left read =
     framed r f (read ∙ rw left (buffer_read (frame_of f) room n p (sym replied)))
 
 -- What `read_frame` read, `write_frame` writes back into every buffer that has room: the same bytes, and zeros behind.
-pub read_is_written : (text : List ℕ) (f : Frame) (room : ℕ) (w : Written) (buffer : List ℕ)
-    → decoded_of (Framed f) ≡ model.lone_line text → length text ≤ room
+pub read_is_written : (text : List ℕ) (f : Frame) (room : ℕ) (w : Result ℕ Refusal) (buffer : List ℕ)
+    → decoded_of (Ok f) ≡ model.lone_line text → length text ≤ room
     → written_of w ≡ model.write_frame (frame_of f) room → buffer ≡ model.written_frame (frame_of f) room
     → (written_of w ≡ ok (length text)) × (buffer ≡ filled room text)
 read_is_written text f room w buffer read fits replied left =

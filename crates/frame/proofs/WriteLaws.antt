@@ -5,26 +5,22 @@ use mathlib.Core.List.{List, [], ◌∷◌, ◌++◌, append_assoc, append-nil}
 use mathlib.Core.Bool.{Bool, true, false, and-false}
 use native.Mathlib.Omega.{arith}
 use lib.Dec.{leb}
-use lib.ListN.{length, take, drop, get_or, set, length-replicate, drop_of_length-le}
+use lib.ListN.{length, drop, get_or, set, length-replicate, drop_of_length-le}
 use native.Mathlib.Numerals.{add-one}
-use lib.Seq.{sets, sets-eq, length-sets, set_comm, drop-cons, length-take-le}
+use lib.Seq.{sets, sets-eq, length-sets, set_comm, drop-cons}
 use borrow.Author.Tests.{le-leb, lt-leb}
 use Rattle.model.specs.Limits.{highest_line}
 use Rattle.model.specs.Answers.{guard, zeros, filled}
 use Rattle.model.specs.Answers.Answer.{ok, refused}
 use Rattle.model.specs.Lines.{digit_of, line_feed}
 use Rattle.model.specs.Frames.{Frame, widths, total, hex, hex_fields, line_of, stated_line, write_frame, written_frame, one_byte, two_bytes}
-use types.Run.{OneOf, miss}
-use denote.Enum.Declared.{tag_of}
 use Rattle.laws.specs.Digits.{length_hex}
 use Rattle.laws.specs.RoundTrip.{line_length}
-use Rattle.frame.specs.contracts.Frame as FrameTag
-use Rattle.frame.specs.declared.Frame as FrameType
-use Rattle.frame.specs.declared.Frame.TheVariants.{Header, Gate, Output, Resolve, Extend, Report}
 use Rattle.frame.specs.declared.Op.{Op}
 use Rattle.frame.specs.declared.Op.TheVariants.{And, Xor}
+use Rattle.frame.specs.declared.fields.Field.{Field}
 use Rattle.frame.specs.declared.fields.Fields.{Fields}
-use Rattle.frame.specs.Frames.{report, frame_of, Spells}
+use Rattle.frame.specs.Frames.{report, values_of, widths_of, Spells}
 use Rattle.frame.specs.Kinds.{operands_kind}
 
 -- ---- stores
@@ -66,73 +62,86 @@ operands_widths false Xor = refl
 operands_widths true And = refl
 operands_widths true Xor = refl
 
--- a frame that is no report states no line
-pub no_line : (f : FrameType.Frame) → OneOf (0 ∷ 1 ∷ 2 ∷ 3 ∷ 4 ∷ []) (tag_of FrameTag.the_type f) → stated_line (frame_of f) ≡ 0
-unfolding stated_line
-no_line (Header i g o) k = refl
-no_line (Gate And x y) k = refl
-no_line (Gate Xor x y) k = refl
-no_line (Output l) k = refl
-no_line (Resolve a b v) k = refl
-no_line (Extend And x y) k = refl
-no_line (Extend Xor x y) k = refl
-no_line (Report r n s c) k = absurd (miss (0 ∷ 1 ∷ 2 ∷ 3 ∷ 4 ∷ []) 5 tt k)
-
 -- a line's length, where the widths of its kind are known to be ws
 pub line_by_widths : (f : Frame) (ws : List ℕ) → ws ≡ widths f.kind → length f.fields ≡ length ws → length (line_of f) ≡ one_byte + total ws + 1
 line_by_widths f ws e n = rw e (line_length f (n ∙ ap length e))
 
 -- ---- fields in turn
 
--- Of the fields vs of widths ws, the first i are stored: the place has moved past them, and storing the others and the LF gives what storing all
--- of them from the start gives.
-pub record Storing (ws vs out₀ : List ℕ) (p₀ i : ℕ) (out : List ℕ) (p : ℕ) : Type 0 where
+-- Of these fields the first i are stored: the place has moved past them, and storing the others and the LF gives what storing all of them from
+-- the start gives.
+pub record Storing (fields : List Field) (out₀ : List ℕ) (p₀ i : ℕ) (out : List ℕ) (p : ℕ) : Type 0 where
   pub long : length out ≡ length out₀
-  pub place : p + total (drop i ws) ≡ p₀ + total ws
-  pub same : sets out p (hex_fields (drop i ws) (drop i vs) ++ (line_feed ∷ [])) ≡ sets out₀ p₀ (hex_fields ws vs ++ (line_feed ∷ []))
+  pub place : p + total (widths_of (drop i fields)) ≡ p₀ + total (widths_of fields)
+  pub same : sets out p (hex_fields (widths_of (drop i fields)) (values_of (drop i fields)) ++ (line_feed ∷ [])) ≡ sets out₀ p₀ (hex_fields (widths_of fields) (values_of fields) ++ (line_feed ∷ []))
 
-module _ (ws vs out₀ : List ℕ) (p₀ i : ℕ) (out : List ℕ) (p : ℕ) (s : Storing ws vs out₀ p₀ i out p) where
+abbrev none : Field
+none = record { value = 0; width = 0 }
+
+module _ (fields : List Field) (out₀ : List ℕ) (p₀ i : ℕ) (out : List ℕ) (p : ℕ) (s : Storing fields out₀ p₀ i out p) where
   -- the place moves past field i
-  past : i < length ws → p + get_or ws i 0 + total (drop (i + 1) ws) ≡ p₀ + total ws
+  past : i < length fields → p + (get_or fields i none).width + total (widths_of (drop (suc i) fields)) ≡ p₀ + total (widths_of fields)
   unfolding total
-  past h = let e = rw (drop-cons ws i 0 h) at s.place in rw add-one (omega arith)
+  past h = let e = rw (drop-cons fields i none h) at s.place in omega arith
 
-  pub field_room : i < length ws → p₀ + total ws + 1 ≤ length out₀ → p + get_or ws i 0 ≤ length out
+  pub field_room : i < length fields → p₀ + total (widths_of fields) + 1 ≤ length out₀ → p + (get_or fields i none).width ≤ length out
   field_room h r = omega (arith, past h, s.long)
 
-  pub field_stored : i < length ws → i < length vs → (out' : List ℕ) (p' : ℕ) → out' ≡ sets out p (hex (get_or ws i 0) (get_or vs i 0)) → p' ≡ p + get_or ws i 0
-      → Storing ws vs out₀ p₀ (i + 1) out' p'
-  field_stored h k out' p' e q =
+  pub field_stored : i < length fields → (out' : List ℕ) (p' : ℕ) → out' ≡ sets out p (hex (get_or fields i none).width (get_or fields i none).value) → p' ≡ p + (get_or fields i none).width
+      → Storing fields out₀ p₀ (i + 1) out' p'
+  field_stored h out' p' e q =
       record {
         long = rw (e, length-sets) s.long;
-        place = rw q (past h);
+        place = rw (q, add-one) (past h);
         same =
-            rw (e, q, add-one, store_field out p (get_or ws i 0) (get_or vs i 0) (drop (suc i) ws) (drop (suc i) vs) (line_feed ∷ []), ← drop-cons ws i 0 h, ← drop-cons vs i 0 k)
-            s.same;
+            rw (
+              e,
+              q,
+              add-one,
+              store_field out p (get_or fields i none).width (get_or fields i none).value (widths_of (drop (suc i) fields)) (values_of (drop (suc i) fields)) (line_feed ∷ []),
+            )
+            (rw (drop-cons fields i none h) at s.same);
       }
 
   -- none is left
-  pub fields_stored : length ws ≤ i → (p ≡ p₀ + total ws) × (set out p line_feed ≡ sets out₀ p₀ (hex_fields ws vs ++ (line_feed ∷ [])))
+  pub fields_stored : length fields ≤ i → (p ≡ p₀ + total (widths_of fields)) × (set out p line_feed ≡ sets out₀ p₀ (hex_fields (widths_of fields) (values_of fields) ++ (line_feed ∷ [])))
   unfolding total hex_fields
   fields_stored h =
-      let e = rw (drop_of_length-le ws h) at s.place in
-      (omega arith, rw (drop_of_length-le ws h) at s.same)
+      let e = rw (drop_of_length-le fields h) at s.place in
+      (omega arith, rw (drop_of_length-le fields h) at s.same)
 
 -- ---- a frame's line
 
-module _ (w : Fields) (f : Frame) (s : Spells w f) (n : length w.values ≡ 4) (m : length w.widths ≡ 4) where
-  pub width_count : length (take w.count w.widths) ≡ w.count
-  width_count = length-take-le w.count w.widths (omega (arith, s.room))
+-- fields of no digits behind the last are not written
+no_digits : (n : ℕ) → hex_fields (zeros n) (zeros n) ≡ []
+unfolding hex_fields hex
+no_digits zero = refl
+no_digits (suc n) = no_digits n
 
-  pub value_count : length (take w.count w.values) ≡ w.count
-  value_count = length-take-le w.count w.values (omega (arith, s.room))
+fields_alone : (ws vs : List ℕ) (n : ℕ) → length vs ≡ length ws → hex_fields (ws ++ zeros n) (vs ++ zeros n) ≡ hex_fields ws vs
+unfolding hex_fields
+fields_alone [] [] n e = no_digits n
+fields_alone [] (v ∷ vs) n e = absurd (omega arith)
+fields_alone (w ∷ ws) [] n e = absurd (omega arith)
+fields_alone (w ∷ ws) (v ∷ vs) n e = rw (fields_alone ws vs n (omega arith))
 
-  pub line_long : length (line_of f) ≡ one_byte + total (take w.count w.widths) + 1
-  line_long = line_by_widths f (take w.count w.widths) s.widths (sym (ap length s.values) ∙ value_count ∙ sym width_count)
+no_total : (n : ℕ) → total (zeros n) ≡ 0
+unfolding total
+no_total zero = refl
+no_total (suc n) = omega (arith, no_total n)
+
+total_alone : (ws : List ℕ) (n : ℕ) → total (ws ++ zeros n) ≡ total ws
+unfolding total
+total_alone [] n = no_total n
+total_alone (w ∷ ws) n = rw (total_alone ws n)
+
+module _ (w : Fields) (f : Frame) (s : Spells w f) where
+  pub line_long : length (line_of f) ≡ one_byte + total (widths_of w.fields) + 1
+  line_long = line_by_widths f (widths f.kind) refl s.long ∙ rw (s.widths, total_alone (widths f.kind) (4 - length f.fields))
 
   -- the kind is stored, and then the fields
   pub line_stored : (out : List ℕ) (at : ℕ)
-      → sets (sets out at (hex one_byte w.kind)) (at + one_byte) (hex_fields (take w.count w.widths) (take w.count w.values) ++ (line_feed ∷ [])) ≡ sets out at (line_of f)
+      → sets (sets out at (hex one_byte w.kind)) (at + one_byte) (hex_fields (widths_of w.fields) (values_of w.fields) ++ (line_feed ∷ [])) ≡ sets out at (line_of f)
   unfolding line_of
   line_stored out at =
       rw (
@@ -140,6 +149,7 @@ module _ (w : Fields) (f : Frame) (s : Spells w f) (n : length w.values ≡ 4) (
         s.kind,
         s.widths,
         s.values,
+        fields_alone (widths f.kind) f.fields (4 - length f.fields) s.long,
         sets_append out at (hex one_byte f.kind) (hex_fields (widths f.kind) f.fields ++ (line_feed ∷ [])),
         length_hex one_byte f.kind,
       )
@@ -183,9 +193,8 @@ pub report_length : (refusal line steps clauses : ℕ) → length (line_of (repo
 unfolding widths total
 report_length refusal line steps clauses = line_length (report refusal line steps clauses) refl
 
-pub report_written : (refusal line steps clauses : ℕ) → line ≤ highest_line → {room : ℕ} → room ≡ 19
-    → written_frame (report refusal line steps clauses) room ≡ line_of (report refusal line steps clauses)
-unfolding write_frame guard stated_line
-report_written refusal line steps clauses h e =
-    let l = report_length refusal line steps clauses in
-    rw (e, le-leb line highest_line h, l) (rw l (append-nil (line_of (report refusal line steps clauses))))
+-- a line that fills a buffer of zeros
+pub whole_buffer : (line : List ℕ) {n : ℕ} → length line ≡ n → sets (zeros n) 0 line ≡ line
+whole_buffer line e =
+    let none : length line - length line ≡ 0 = omega arith in
+    rw (← e) (fill (length line) line (omega arith) ∙ rw (none, append-nil))

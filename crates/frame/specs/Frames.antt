@@ -1,23 +1,20 @@
 -- The paper's kind and fields, number and line, for each case of the enums.
-use Rattle.std.specs.Prelude.{ℕ, suc, ◌≤◌, ◌<◌, ◌≡◌, List, [], ◌∷◌, length, take, drop}
-use Rattle.model.specs.Answers.{Answer}
+use Rattle.std.specs.Prelude.{ℕ, suc, ◌-◌, ◌≤◌, ◌<◌, ◌≡◌, List, [], ◌∷◌, ◌++◌, map, length, drop, Option, Some, None, Result, Ok, Err}
+use Rattle.model.specs.Answers.{Answer, zeros}
 use Rattle.model.specs.Answers.Answer.{ok, refused}
 use Rattle.model.specs.Lines as model_lines
 use Rattle.model.specs.Lines.{lines}
 use Rattle.model.specs.Frames as model
 use Rattle.model.specs.Nets as nets
+use Rattle.refusal.specs.declared.Refusal.{Refusal}
+use Rattle.refusal.specs.Answers.{number_of, answer_by, answer_of}
 use Rattle.frame.specs.declared.Cursor.{Cursor}
 use Rattle.frame.specs.declared.Op.{Op}
 use Rattle.frame.specs.declared.Op.TheVariants.{And, Xor}
 use Rattle.frame.specs.declared.Frame.{Frame}
 use Rattle.frame.specs.declared.Frame.TheVariants.{Header, Gate, Output, Resolve, Extend, Report}
-use Rattle.frame.specs.declared.Decoded.{Decoded}
-use Rattle.frame.specs.declared.Decoded.TheVariants.{Framed, Fault}
-use Rattle.frame.specs.declared.Line.{Line}
-use Rattle.frame.specs.declared.Line.TheVariants.{Read, End, Refused}
+use Rattle.frame.specs.declared.fields.Field.{Field}
 use Rattle.frame.specs.declared.fields.Fields.{Fields}
-use Rattle.frame.specs.declared.Written.{Written}
-use Rattle.frame.specs.declared.Written.TheVariants.{Done, Unwritten}
 
 -- ---- frames
 
@@ -51,13 +48,11 @@ frame_of (Report r n s c) = report r n s c
 
 -- ---- answers
 
-abbrev pub decoded_of : Decoded → Answer model.Frame
-decoded_of (Framed f) = ok (frame_of f)
-decoded_of (Fault number line) = refused number line
+abbrev pub decoded_of : Result Frame Refusal → Answer model.Frame
+decoded_of r = answer_by frame_of r
 
-abbrev pub written_of : Written → Answer ℕ
-written_of (Done n) = ok n
-written_of (Unwritten number line) = refused number line
+abbrev pub written_of : Result ℕ Refusal → Answer ℕ
+written_of r = answer_of r
 
 -- ---- reading by cursor
 
@@ -77,10 +72,15 @@ first [] line = none
 first (l ∷ ls) line = first_in (model.frame_at l line) ls (suc line)
 
 -- the same of what the reader answers: a cursor stands for the lines from its place on
-abbrev pub first_of : List ℕ → Line → First
-first_of text (Read f next) = found (frame_of f) (lines (drop next.at text)) next.line
-first_of text End = none
-first_of text (Refused number line) = fault number line
+abbrev pub first_of : List ℕ → Result (Option (Frame × Cursor)) Refusal → First
+first_of text (Ok (Some (f, next))) = found (frame_of f) (lines (drop next.at text)) next.line
+first_of text (Ok None) = none
+first_of text (Err r) = fault (number_of r.reason) r.line
+
+-- and where no frame was read
+abbrev pub left_of : Result (Unit {0}) Refusal → First
+left_of (Ok _) = none
+left_of (Err r) = fault (number_of r.reason) r.line
 
 -- A cursor in a text. Every line has a byte, so a line's number cannot outrun its place.
 pub record Inside (text : List ℕ) (c : Cursor) : Type 0 where
@@ -88,22 +88,23 @@ pub record Inside (text : List ℕ) (c : Cursor) : Type 0 where
   pub line : c.line ≤ suc c.at
 
 -- the cursor behind a frame that was read is in the text, and farther on
-abbrev pub Ahead : List ℕ → ℕ → Line → Type 0
-Ahead text at (Read f next) = Inside text next × (at < next.at)
-Ahead text at End = Unit {0}
-Ahead text at (Refused number line) = Unit {0}
-
--- no frame was read
-abbrev pub NoFrame : Line → Type 0
-NoFrame (Read f next) = ⊥
-NoFrame End = Unit {0}
-NoFrame (Refused number line) = Unit {0}
+abbrev pub Ahead : List ℕ → ℕ → Result (Option (Frame × Cursor)) Refusal → Type 0
+Ahead text at (Ok (Some (f, next))) = Inside text next × (at < next.at)
+Ahead text at (Ok None) = Unit {0}
+Ahead text at (Err r) = Unit {0}
 
 -- ---- writing
 
--- the struct holds the frame's kind, its fields and their widths
+abbrev pub values_of : List Field → List ℕ
+values_of fields = map (λ (f : Field). f.value) fields
+
+abbrev pub widths_of : List Field → List ℕ
+widths_of fields = map (λ (f : Field). f.width) fields
+
+-- The struct holds the frame's kind, its fields and their widths. Behind the last of them it has fields of no digits, up to four.
 pub record Spells (w : Fields) (f : model.Frame) : Type 0 where
   pub kind : w.kind ≡ f.kind
-  pub room : w.count ≤ 4
-  pub values : take w.count w.values ≡ f.fields
-  pub widths : take w.count w.widths ≡ model.widths f.kind
+  pub values : values_of w.fields ≡ f.fields ++ zeros (4 - length f.fields)
+  pub widths : widths_of w.fields ≡ model.widths f.kind ++ zeros (4 - length f.fields)
+  pub long : length f.fields ≡ length (model.widths f.kind)
+  pub room : length f.fields ≤ 4

@@ -1,3 +1,4 @@
 pub mod Frames
 pub mod Kinds
 pub mod Fields
+pub mod Rows

@@ -1,27 +1,75 @@
 // A frame as its kind and fields, and its line written field by field.
-ghost use Rattle.std.specs.Prelude.{◌≡◌, ◌+◌, ◌≤◌, ◌<◌, leb, length};
+ghost use Rattle.std.specs.Prelude.{◌≡◌, ◌+◌, ◌≤◌, ◌<◌, leb, length, get_or};
 ghost use Rattle.std.proofs.lemmas.List.Edits.{sets};
 ghost use Rattle.model.specs.Limits.{highest_line};
 ghost use Rattle.model.specs.Lines.{digit_of};
-ghost use Rattle.model.specs.Frames.{hex, line_of, stated_line};
-ghost use Rattle.frame.specs.Frames.{frame_of, Spells};
+ghost use Rattle.model.specs.Frames.{one_byte, two_bytes, three_bytes, hex, line_of, stated_line};
+ghost use Rattle.frame.specs.Frames.{frame_of, values_of, Spells};
 
 use crate::Frame;
 use crate::kinds::{
     EXTEND_BYTES, GATE_BYTES, HEADER_BYTES, Kind, OUTPUT_BYTES, REPORT_BYTES, RESOLVE_BYTES,
-    byte_of,
 };
 
 // The highest line number that a report can state, in three bytes.
 pub const HIGHEST_LINE: usize = 0xFFFFFF;
 
-// The kind, and count fields with the digits that each has on the line.
-#[derive(Clone, Copy)]
+// A field, and the digits that it has on the line.
+#[derive(Clone, Copy, PartialEq, Eq)]
+pub struct Field {
+    pub value: usize,
+    pub width: usize,
+}
+
+impl Field {
+    // Where a kind has no further field.
+    pub const NONE: Field = Field { value: 0, width: 0 };
+
+    // A line number, which is the only field of three bytes.
+    fn three_bytes(value: usize) -> Field
+        ensures { result ≡ record { value = value; width = three_bytes } }
+    {
+        Field { value, width: 6 }
+    }
+}
+
+impl From<u8> for Field {
+    ghost from_gives = { λ value field. field ≡ record { value = value; width = one_byte } };
+
+    fn from(value: u8) -> Field {
+        Field {
+            value: value as usize,
+            width: 2,
+        }
+    }
+}
+
+impl From<u16> for Field {
+    ghost from_gives = { λ value field. field ≡ record { value = value; width = two_bytes } };
+
+    fn from(value: u16) -> Field {
+        Field {
+            value: value as usize,
+            width: 4,
+        }
+    }
+}
+
+// The kind's byte, and the fields in turn.
+#[derive(Clone, Copy, PartialEq, Eq)]
 pub struct Fields {
     pub kind: u8,
-    pub count: usize,
-    pub values: [usize; 4],
-    pub widths: [usize; 4],
+    pub fields: [Field; 4],
+}
+
+impl Fields {
+    // Field i, from 0; 0 behind the last.
+    pub fn value(self, i: usize) -> usize
+        requires { i < 4 }
+        ensures { result ≡ get_or (values_of self.fields) i 0 }
+    {
+        self.fields[i].value
+    }
 }
 
 pub fn fields_of(frame: Frame) -> Fields
@@ -33,38 +81,28 @@ pub fn fields_of(frame: Frame) -> Fields
             gates,
             outputs,
         } => Fields {
-            kind: byte_of(Kind::Header),
-            count: 3,
-            values: [inputs as usize, gates as usize, outputs as usize, 0],
-            widths: [2, 4, 2, 0],
+            kind: Kind::Header.into(),
+            fields: [inputs.into(), gates.into(), outputs.into(), Field::NONE],
         },
         Frame::Gate { op, x, y } => Fields {
-            kind: byte_of(Kind::Gate(op)),
-            count: 2,
-            values: [x as usize, y as usize, 0, 0],
-            widths: [4, 4, 0, 0],
+            kind: Kind::Gate(op).into(),
+            fields: [x.into(), y.into(), Field::NONE, Field::NONE],
         },
         Frame::Output { literal } => Fields {
-            kind: byte_of(Kind::Output),
-            count: 1,
-            values: [literal as usize, 0, 0, 0],
-            widths: [4, 0, 0, 0],
+            kind: Kind::Output.into(),
+            fields: [literal.into(), Field::NONE, Field::NONE, Field::NONE],
         },
         Frame::Resolve {
             first,
             second,
             variable,
         } => Fields {
-            kind: byte_of(Kind::Resolve),
-            count: 3,
-            values: [first as usize, second as usize, variable as usize, 0],
-            widths: [4, 4, 4, 0],
+            kind: Kind::Resolve.into(),
+            fields: [first.into(), second.into(), variable.into(), Field::NONE],
         },
         Frame::Extend { op, x, y } => Fields {
-            kind: byte_of(Kind::Extend(op)),
-            count: 2,
-            values: [x as usize, y as usize, 0, 0],
-            widths: [4, 4, 0, 0],
+            kind: Kind::Extend(op).into(),
+            fields: [x.into(), y.into(), Field::NONE, Field::NONE],
         },
         Frame::Report {
             refusal,
@@ -72,10 +110,13 @@ pub fn fields_of(frame: Frame) -> Fields
             steps,
             clauses,
         } => Fields {
-            kind: byte_of(Kind::Report),
-            count: 4,
-            values: [refusal as usize, line, steps as usize, clauses as usize],
-            widths: [2, 6, 4, 4],
+            kind: Kind::Report.into(),
+            fields: [
+                refusal.into(),
+                Field::three_bytes(line),
+                steps.into(),
+                clauses.into(),
+            ],
         },
     }
 }
@@ -85,25 +126,12 @@ pub fn line_len(frame: Frame) -> usize
     ensures { result ≡ length (line_of (frame_of frame)) }
 {
     match frame {
-        Frame::Header {
-            inputs: _,
-            gates: _,
-            outputs: _,
-        } => HEADER_BYTES,
-        Frame::Gate { op: _, x: _, y: _ } => GATE_BYTES,
-        Frame::Output { literal: _ } => OUTPUT_BYTES,
-        Frame::Resolve {
-            first: _,
-            second: _,
-            variable: _,
-        } => RESOLVE_BYTES,
-        Frame::Extend { op: _, x: _, y: _ } => EXTEND_BYTES,
-        Frame::Report {
-            refusal: _,
-            line: _,
-            steps: _,
-            clauses: _,
-        } => REPORT_BYTES,
+        Frame::Header { .. } => HEADER_BYTES,
+        Frame::Gate { .. } => GATE_BYTES,
+        Frame::Output { .. } => OUTPUT_BYTES,
+        Frame::Resolve { .. } => RESOLVE_BYTES,
+        Frame::Extend { .. } => EXTEND_BYTES,
+        Frame::Report { .. } => REPORT_BYTES,
     }
 }
 
@@ -111,13 +139,7 @@ pub fn line_len(frame: Frame) -> usize
 pub fn line_number_fits(frame: Frame) -> bool
     ensures { result ≡ leb (stated_line (frame_of frame)) highest_line }
 {
-    let Frame::Report {
-        refusal: _,
-        line,
-        steps: _,
-        clauses: _,
-    } = frame
-    else {
+    let Frame::Report { line, .. } = frame else {
         return true;
     };
     line <= HIGHEST_LINE
@@ -127,10 +149,7 @@ pub fn digit_of(d: u8) -> u8
     requires { d < 16 }
     ensures { result ≡ digit_of d }
 {
-    if d < 10 {
-        return 48 + d;
-    }
-    55 + d
+    if d < 10 { b'0' + d } else { b'A' - 10 + d }
 }
 
 // The lowest digits of n, as many as width says, written from a place on; the place behind them.
@@ -138,11 +157,9 @@ pub fn put_hex(out: &mut [u8], at: usize, n: usize, width: usize) -> usize
     requires { at + width ≤ length out.old }
     ensures { (result ≡ at + width) × (out.new ≡ sets out.old at (hex width n)) }
 {
-    let mut left = width;
     let mut rest = n;
-    while 0 < left {
-        left -= 1;
-        out[at + left] = digit_of((rest % 16) as u8);
+    for i in (0..width).rev() {
+        out[at + i] = digit_of((rest % 16) as u8);
         rest /= 16;
     }
     at + width
@@ -154,16 +171,10 @@ pub fn write_line(frame: Frame, out: &mut [u8], at: usize) -> usize
     ensures { (result ≡ at + length (line_of (frame_of frame))) × (out.new ≡ sets out.old at (line_of (frame_of frame))) }
 {
     let w = fields_of(frame);
-    let kind = w.kind as usize;
-    let count = w.count;
-    let mut p = put_hex(out, at, kind, 2);
-    let mut i: usize = 0;
-    while i < count {
-        let n = w.values[i];
-        let width = w.widths[i];
-        p = put_hex(out, p, n, width);
-        i += 1;
+    let mut p = put_hex(out, at, w.kind as usize, 2);
+    for field in &w.fields {
+        p = put_hex(out, p, field.value, field.width);
     }
-    out[p] = 10;
+    out[p] = b'\n';
     p + 1
 }

@@ -6,36 +6,54 @@ pub mod fields; // a frame as its kind and fields, for writing
 pub mod kinds; // the table of kinds
 pub mod read; // the fields of a line, by its kind
 pub mod report; // a report's line
+pub mod rows; // the lines that stand in rows
 pub mod resolves; // a resolve's line, written without a loop
 
 ghost use Rattle.std.specs.Prelude.{◌≡◌, ℕ, ◌<◌, ◌≤◌, drop, length};
 ghost use Rattle.model.specs.Lines.{lines};
 ghost use Rattle.model.specs.Frames.{lone_line, write_frame, written_frame};
-ghost use Rattle.frame.specs.Frames.{frame_of, decoded_of, written_of, first, first_of, Inside, Ahead, NoFrame};
+ghost use Rattle.refusal.specs.Answers.{number_of};
+ghost use Rattle.frame.specs.Frames.{frame_of, decoded_of, written_of, first, first_of, left_of, Inside, Ahead};
 ghost use Rattle.frame.specs.Frames.First.{fault};
 ghost use Rattle.frame.specs.Kinds.{Unframed};
 
-use clearing::clear_bytes;
+use clearing::clear;
 use digits::digits_at;
 use fields::{line_len, line_number_fits, write_line};
-use read::{Look, frame_at};
-use refusal::Refusal;
+use read::frame_at;
+use refusal::{Reason, Refusal};
 
 // A place in a text: the next byte, and the number of its line, from 1.
-#[derive(Clone, Copy)]
+#[derive(Clone, Copy, PartialEq, Eq)]
 pub struct Cursor {
     pub at: usize,
     pub line: usize,
 }
 
-#[derive(Clone, Copy)]
+#[derive(Clone, Copy, PartialEq, Eq)]
 pub enum Op {
     And,
     Xor,
 }
 
+// A gate's operation and operands.
+#[derive(Clone, Copy, PartialEq, Eq)]
+pub struct Gate {
+    pub op: Op,
+    pub x: u16,
+    pub y: u16,
+}
+
+// A resolve's clauses and its pivot.
+#[derive(Clone, Copy, PartialEq, Eq)]
+pub struct Resolve {
+    pub first: u16,
+    pub second: u16,
+    pub variable: u16,
+}
+
 // A frame of each kind of the table.
-#[derive(Clone, Copy)]
+#[derive(Clone, Copy, PartialEq, Eq)]
 pub enum Frame {
     Header {
         inputs: u8,
@@ -69,121 +87,87 @@ pub enum Frame {
     },
 }
 
-// A decoded line: its frame, or the refusal with its place.
-#[derive(Clone, Copy)]
-pub enum Decoded {
-    Framed(Frame),
-    Fault { number: u8, line: usize },
+impl From<Resolve> for Frame {
+    ghost use Rattle.frame.specs.declared.Frame.{Frame};
+
+    ghost from_gives = { λ step frame. frame ≡ Frame.Resolve step.first step.second step.variable };
+
+    fn from(step: Resolve) -> Frame {
+        Frame::Resolve {
+            first: step.first,
+            second: step.second,
+            variable: step.variable,
+        }
+    }
 }
 
-// What stands at a cursor: a frame with the cursor behind its line, nothing, or a refusal with its place.
-#[derive(Clone, Copy)]
-pub enum Line {
-    Read(Frame, Cursor),
-    End,
-    Refused { number: u8, line: usize },
-}
-
-// The length of the line written, or the refusal with its place.
-#[derive(Clone, Copy)]
-pub enum Written {
-    Done(usize),
-    Unwritten { number: u8, line: usize },
-}
-
-// The refusal of a line that has no frame: 2 where its first byte that is no digit is no LF either, or the text ends before one; else 3.
-fn fault_at(text: &[u8], at: usize) -> u8
+// Why a line has no frame: its first byte that is no digit is no LF either, or the text ends before one; else its digits are none.
+fn fault_at(text: &[u8], at: usize) -> Reason
     requires { at ≤ length text.now }
-    ensures { at < length text.now → Unframed text.now at → (line : ℕ) → fault result line ≡ first (lines (drop at text.now)) line }
+    ensures { at < length text.now → Unframed text.now at → (line : ℕ) → fault (number_of result) line ≡ first (lines (drop at text.now)) line }
 {
     let end = at + digits_at(text, at);
     if end == text.len() {
-        return Refusal::BYTES;
+        return Reason::Bytes;
     }
-    if text[end] != 10 {
-        return Refusal::BYTES;
+    if text[end] != b'\n' {
+        return Reason::Bytes;
     }
-    Refusal::FRAME
+    Reason::Frame
 }
 
-// What stands at a cursor where no frame does: nothing, or a line that is refused.
-fn unframed(text: &[u8], cursor: Cursor) -> Line
+// Whether nothing stands at a cursor where no frame does; else a line, which is refused.
+fn end_at(text: &[u8], cursor: Cursor) -> Result<(), Refusal>
     requires { Inside text.now cursor }
-    ensures reads { Unframed text.now cursor.at → first_of text.now result ≡ first (lines (drop cursor.at text.now)) cursor.line }
-    ensures none { NoFrame result }
+    ensures { Unframed text.now cursor.at → left_of result ≡ first (lines (drop cursor.at text.now)) cursor.line }
 {
-    let at = cursor.at;
-    if at == text.len() {
-        return Line::End;
+    if cursor.at == text.len() {
+        return Ok(());
     }
-    Line::Refused {
-        number: fault_at(text, at),
-        line: cursor.line,
-    }
+    Err(fault_at(text, cursor.at).at(cursor.line))
 }
 
-// The line at a cursor.
-pub fn read_line(text: &[u8], cursor: Cursor) -> Line
+// The line at a cursor as a frame, with the cursor behind it; none at the end of the text.
+pub fn read_line(text: &[u8], cursor: Cursor) -> Result<Option<(Frame, Cursor)>, Refusal>
     requires { Inside text.now cursor }
     ensures reads { first_of text.now result ≡ first (lines (drop cursor.at text.now)) cursor.line }
     ensures ahead { Ahead text.now cursor.at result }
 {
-    let look = frame_at(text, cursor.at);
-    match look {
-        Look::Is(frame, behind) => Line::Read(
-            frame,
-            Cursor {
-                at: behind,
-                line: cursor.line + 1,
-            },
-        ),
-        Look::Other => unframed(text, cursor),
-    }
+    let Some((frame, behind)) = frame_at(text, cursor.at) else {
+        end_at(text, cursor)?;
+        return Ok(None);
+    };
+    let next = Cursor {
+        at: behind,
+        line: cursor.line + 1,
+    };
+    Ok(Some((frame, next)))
 }
 
 // A lone line: a text that is one frame and nothing behind it.
-pub fn read_frame(text: &[u8]) -> Decoded
+pub fn read_frame(text: &[u8]) -> Result<Frame, Refusal>
     ensures { decoded_of result ≡ lone_line text.now }
 {
-    let only = read_line(text, Cursor { at: 0, line: 1 });
-    match only {
-        Line::Read(frame, next) => {
-            let second = next.line;
-            let behind = read_line(text, next);
-            match behind {
-                Line::End => Decoded::Framed(frame),
-                Line::Refused { number, line } => Decoded::Fault { number, line },
-                Line::Read(_, _) => Decoded::Fault {
-                    number: Refusal::FRAME,
-                    line: second,
-                },
-            }
-        }
-        Line::Refused { number, line } => Decoded::Fault { number, line },
-        Line::End => Decoded::Fault {
-            number: Refusal::BYTES,
-            line: 1,
-        },
+    let Some((frame, next)) = read_line(text, Cursor { at: 0, line: 1 })? else {
+        return Err(Reason::Bytes.at(1));
+    };
+    match read_line(text, next)? {
+        None => Ok(frame),
+        Some(_) => Err(Reason::Frame.at(next.line)),
     }
 }
 
 // A frame's line with its LF at the start of out and zeros behind it; or 16, and all zeros.
-pub fn write_frame(frame: Frame, out: &mut [u8]) -> Written
+pub fn write_frame(frame: Frame, out: &mut [u8]) -> Result<usize, Refusal>
     ensures replies { written_of result ≡ write_frame (frame_of frame) (length out.old) }
     ensures leaves { out.new ≡ written_frame (frame_of frame) (length out.old) }
 {
-    clear_bytes(out, 0);
+    clear(out, 0);
     if !line_number_fits(frame) {
-        return Written::Unwritten {
-            number: Refusal::ROOM,
-            line: 0,
-        };
+        return Err(Reason::Room.at(0));
     }
     if out.len() < line_len(frame) {
-        return Written::Unwritten {
-            number: Refusal::ROOM,
-            line: 0,
-        };
+        return Err(Reason::Room.at(0));
     }
-    Written::Done(write_line(frame, out, 0))
+    Ok(write_line(frame, out, 0))
 }

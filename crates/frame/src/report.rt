@@ -4,8 +4,9 @@ ghost use Rattle.model.specs.Limits.{highest_line};
 ghost use Rattle.model.specs.Frames.{line_of};
 ghost use Rattle.frame.specs.Frames.{report};
 
+use crate::Frame;
+use crate::fields::write_line;
 use crate::kinds::REPORT_BYTES;
-use crate::{Frame, write_frame};
 
 // The line, with its LF.
 pub fn report_line(refusal: u8, line: usize, steps: u16, clauses: u16) -> [u8; REPORT_BYTES]
@@ -13,14 +14,12 @@ pub fn report_line(refusal: u8, line: usize, steps: u16, clauses: u16) -> [u8; R
     ensures { result ≡ line_of (report refusal line steps clauses) }
 {
     let mut out = [0u8; REPORT_BYTES];
-    write_frame(
-        Frame::Report {
-            refusal,
-            line,
-            steps,
-            clauses,
-        },
-        &mut out,
-    );
+    let frame = Frame::Report {
+        refusal,
+        line,
+        steps,
+        clauses,
+    };
+    write_line(frame, &mut out, 0);
     out
 }

@@ -5,6 +5,7 @@ ghost use Rattle.model.specs.Limits.{proof_line_bytes};
 ghost use Rattle.model.specs.Frames.{two_bytes, hex, line_of};
 ghost use Rattle.frame.specs.Frames.{resolve};
 
+use crate::Resolve;
 use digits::packed::spelling;
 
 // The four digits of n, written from a place on.
@@ -24,14 +25,14 @@ fn put_word(out: &mut [u8], at: usize, n: u16)
 }
 
 // The line, written from a place on.
-pub fn write_resolve(out: &mut [u8], at: usize, first: u16, second: u16, variable: u16)
+pub fn write_resolve(out: &mut [u8], at: usize, step: Resolve)
     requires { at + proof_line_bytes ≤ length out.old }
-    ensures { out.new ≡ sets out.old at (line_of (resolve first second variable)) }
+    ensures { out.new ≡ sets out.old at (line_of (resolve step.first step.second step.variable)) }
 {
-    out[at] = 49;
-    out[at + 1] = 49;
-    put_word(out, at + 2, first);
-    put_word(out, at + 6, second);
-    put_word(out, at + 10, variable);
-    out[at + 14] = 10;
+    out[at] = b'1';
+    out[at + 1] = b'1';
+    put_word(out, at + 2, step.first);
+    put_word(out, at + 6, step.second);
+    put_word(out, at + 10, step.variable);
+    out[at + 14] = b'\n';
 }

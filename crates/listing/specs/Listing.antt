@@ -4,7 +4,7 @@ use Rattle.model.specs.Nets as nets
 use Rattle.model.specs.Lists.{gate_of}
 use Rattle.frame.specs.declared.Frame.TheVariants as FrameCase
 use Rattle.frame.specs.Frames.{frame_of}
-use Rattle.listing.specs.declared.Gate.{Gate}
+use Rattle.frame.specs.declared.Gate.{Gate}
 
 -- the gate of the definitions that it is: that of its frame
 abbrev pub gate_meant : Gate → nets.Gate

@@ -9,25 +9,16 @@ ghost use Rattle.laws.specs.ListText.{Stands};
 ghost use Rattle.frame.specs.Frames.{op_of};
 ghost use Rattle.listing.specs.Listing.{gate_meant, no_gate};
 
-use frame::Op;
-use frame::kinds::{GATE_BYTES, HEADER_BYTES, Kind, OUTPUT_BYTES, kind_at};
-use frame::read::{Operands, Output, operands_at, output_at as literal_at};
-
-#[derive(Clone, Copy)]
-pub struct Gate {
-    pub op: Op,
-    pub x: u16,
-    pub y: u16,
-}
+use frame::kinds::{GATE_BYTES, HEADER_BYTES, OUTPUT_BYTES};
+use frame::rows::{gate_line, op_line, output_line};
+use frame::{Gate, Op};
 
 // What comes where no list stands.
-fn no_gate() -> Gate {
-    Gate {
-        op: Op::And,
-        x: 0,
-        y: 0,
-    }
-}
+const NO_GATE: Gate = Gate {
+    op: Op::And,
+    x: 0,
+    y: 0,
+};
 
 // Gate k, from 0, of the list at a place.
 pub fn gate_at(text: &[u8], at: usize, k: usize) -> Gate
@@ -36,17 +27,9 @@ pub fn gate_at(text: &[u8], at: usize, k: usize) -> Gate
 {
     let place = at + HEADER_BYTES + GATE_BYTES * k;
     if text.len() < place {
-        return no_gate();
+        return NO_GATE;
     }
-    let kind = kind_at(text, place);
-    let Kind::Gate(op) = kind else {
-        return no_gate();
-    };
-    let operands = operands_at(text, place);
-    let Operands::Are(x, y) = operands else {
-        return no_gate();
-    };
-    Gate { op, x, y }
+    gate_line(text, place).unwrap_or(NO_GATE)
 }
 
 // The operation of gate k alone, which its kind tells.
@@ -58,10 +41,7 @@ pub fn op_at(text: &[u8], at: usize, k: usize) -> Op
     if text.len() < place {
         return Op::And;
     }
-    let Kind::Gate(op) = kind_at(text, place) else {
-        return Op::And;
-    };
-    op
+    op_line(text, place).unwrap_or(Op::And)
 }
 
 // The literal of output k, from 0, of the list at a place, which has so many gates.
@@ -73,13 +53,5 @@ pub fn output_at(text: &[u8], at: usize, gates: usize, k: usize) -> u16
     if text.len() < place {
         return 0;
     }
-    let kind = kind_at(text, place);
-    let Kind::Output = kind else {
-        return 0;
-    };
-    let output = literal_at(text, place);
-    let Output::Is(literal) = output else {
-        return 0;
-    };
-    literal
+    output_line(text, place).unwrap_or(0)
 }

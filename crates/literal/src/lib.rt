@@ -1,33 +1,35 @@
 // Literals by value (document 01, 'Lines on the wire' and 'The miter's clauses'): a net or a variable, or its complement.
 #![tactic(auto)]
 
-ghost use Rattle.std.specs.Prelude.{◌≡◌, ◌%◌, ◌≤◌};
+ghost use Rattle.std.specs.Prelude.{◌≡◌, ◌==◌, ◌%◌, ◌≤◌, cond};
 ghost use Rattle.model.specs.Nets.{net_of};
 ghost use Rattle.model.specs.Clauses as model;
 
 // The variable v is 2 × v, its complement 2 × v + 1.
-#[derive(Clone, Copy)]
+#[derive(Clone, Copy, PartialEq, Eq, PartialOrd, Ord)]
 pub struct Literal {
     pub code: u16,
+}
+
+// The literal that a line states.
+impl From<u16> for Literal {
+    ghost from_gives = { λ code literal. literal.code ≡ code };
+
+    fn from(code: u16) -> Literal {
+        Literal { code }
+    }
 }
 
 impl Literal {
     pub const HIGHEST_VARIABLE: u16 = 16383;
 
-    // The codes of the constants: net 0 is false.
-    pub const FALSE: u16 = 0;
+    // The constants: net 0 is false.
+    pub const FALSE: Literal = Literal { code: 0 };
 
-    pub const TRUE: u16 = 1;
+    pub const TRUE: Literal = Literal { code: 1 };
 
     // Above every literal of the store, which holds literals plus one in 16 bits.
     pub const BOUND: u16 = 65535;
-
-    // The literal that a line states.
-    pub fn of(code: u16) -> Literal
-        ensures { result.code ≡ code }
-    {
-        Literal { code }
-    }
 
     pub fn positive(v: u16) -> Literal
         requires { v ≤ 32767 }
@@ -52,6 +54,13 @@ impl Literal {
         }
     }
 
+    // The literal, complemented where this is to be.
+    pub fn complement_if(self, complemented: bool) -> Literal
+        ensures { result.code ≡ cond complemented (model.neg self.code) self.code }
+    {
+        self.signed(complemented as u16)
+    }
+
     pub fn complement(self) -> Literal
         ensures { result.code ≡ model.neg self.code }
     {
@@ -74,10 +83,10 @@ impl Literal {
         self.code / 2
     }
 
-    // 1 for a complement, else 0.
-    pub fn sign(self) -> u16
-        ensures { result ≡ self.code % 2 }
+    // Whether it is a complement.
+    pub fn sign(self) -> bool
+        ensures { result ≡ (self.code % 2 == 1) }
     {
-        self.code % 2
+        self.code % 2 == 1
     }
 }

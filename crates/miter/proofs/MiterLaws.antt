@@ -21,7 +21,7 @@ use Rattle.frame.specs.declared.Op.TheVariants.{And, Xor}
 use Rattle.frame.specs.Frames.{op_of}
 use Rattle.literal.specs.declared.Literal.{Literal}
 use Rattle.netlist.specs.declared.Pair.{Pair}
-use Rattle.listing.specs.declared.Gate as listing
+use Rattle.frame.specs.declared.Gate as listing
 use Rattle.listing.specs.Listing.{gate_meant, no_gate}
 use Rattle.netlist.specs.Within.{Within}
 use Rattle.miter.specs.declared.variables.Definition.{Definition}

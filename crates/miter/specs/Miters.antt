@@ -1,5 +1,5 @@
 -- Two lists that a text has at its start, and the definitions of their miter's variables.
-use Rattle.std.specs.Prelude.{ℕ, zero, suc, ◌+◌, ◌-◌, ◌*◌, ◌≤◌, ◌<◌, ◌≡◌, List, ◌∷◌, leb, length, take, drop, get_or}
+use Rattle.std.specs.Prelude.{ℕ, zero, suc, ◌+◌, ◌-◌, ◌*◌, ◌≤◌, ◌<◌, ◌≡◌, List, ◌∷◌, leb, length, take, drop, get_or, Result, Ok, Err}
 use Rattle.model.specs.Nets.{Gate, Netlist}
 use Rattle.model.specs.Nets.Op.{xor, or}
 use Rattle.model.specs.Clauses.{Clause, positive, gate_clauses, all_clauses}
@@ -11,11 +11,11 @@ use Rattle.model.specs.Steps.{State}
 use Rattle.model.specs.Checker.{begin}
 use Rattle.laws.specs.Pairs as pairs
 use Rattle.laws.specs.ListText.{Stands}
+use Rattle.refusal.specs.declared.Refusal.{Refusal}
+use Rattle.refusal.specs.declared.Reason.TheVariants.{Miter}
 use Rattle.netlist.specs.declared.Pair.{Pair}
 use Rattle.miter.specs.declared.variables.Definition.{Definition}
 use Rattle.steps.specs.Progress.{clauses_of, Held}
-use Rattle.miter.specs.declared.begin.Filled.{Filled}
-use Rattle.miter.specs.declared.begin.Filled.TheVariants.{UpTo, Short}
 
 -- the lists that stand in a text where a reader found them
 pub record PairStands (text : List ℕ) (p : Pair) : Type 0 where
@@ -66,10 +66,10 @@ pub record Space (numbers room : ℕ) : Type 0 where
   pub most : room ≤ most_clauses
   pub some : 1 ≤ room
 
--- the store holds the clauses, or has no room for them
-abbrev pub FilledSays : ℕ → List Clause → List ℕ → Filled → Type 0
-FilledSays room cs store (UpTo n) = Held store cs × (length cs ≡ n) × (n ≤ room)
-FilledSays room cs store Short = room < length cs
+-- the store holds the clauses, or has no room for them, which is 8 at line 0
+abbrev pub FilledSays : ℕ → List Clause → List ℕ → Result ℕ Refusal → Type 0
+FilledSays room cs store (Ok n) = Held store cs × (length cs ≡ n) × (n ≤ room)
+FilledSays room cs store (Err r) = (r ≡ record { reason = Miter; line = 0 }) × (room < length cs)
 
 -- before the first step: 8 if the store is too short for the miter's clauses
 unfoldable pub begin_of : ℕ → Netlist → Netlist → Answer State

@@ -12,38 +12,28 @@ use clause::Clause;
 use clause::store::save;
 use literal::Literal;
 use netlist::Pair;
-use refusal::Refusal;
-use steps::{Progress, Stepped, clause_count, push_gate};
-
-// How many clauses there are then; or the store is too short for them.
-#[derive(Clone, Copy)]
-pub enum Filled {
-    UpTo(usize),
-    Short,
-}
+use refusal::{Reason, Refusal};
+use steps::{Progress, clause_count, push_gate};
 
 // A clause of one literal, behind so many in the store.
 fn put_unit(store: &mut [u16], count: usize, l: Literal)
     requires { (clause_width * count + clause_width ≤ length store.old) × (l.code < 65534) }
     ensures { (cs : List model.Clause) → Held store.old cs → length cs ≡ count → Held store.new (cs ++ ((l.code ∷ []) ∷ [])) }
 {
-    save(store, count, Clause::of_one(l));
+    save(store, count, Clause::of([l]));
 }
 
 // The last clause, of the last variable, behind so many; or 8.
-fn close(store: &mut [u16], room: usize, count: usize, last: usize) -> Stepped
+fn close(store: &mut [u16], room: usize, count: usize, last: usize) -> Result<Progress, Refusal>
     requires { Space (length store.old) room × (count ≤ room) × (last ≤ 4096) }
     ensures { (a b : Netlist) → Held store.old (gates_up_to a b (length (miter_gates a b))) → length (gates_up_to a b (length (miter_gates a b))) ≡ count
         → miter_vars a b ≡ last + 1 → Says room (begin_of room a b) store.new result }
 {
     if count == room {
-        return Stepped::Refused(Refusal {
-            number: Refusal::MITER,
-            line: 0,
-        });
+        return Err(Reason::Miter.at(0));
     }
     put_unit(store, count, Literal::positive(last as u16));
-    Stepped::Done(Progress {
+    Ok(Progress {
         clauses: count + 1,
         next: (last + 1) as u16,
         steps: 0,
@@ -51,44 +41,37 @@ fn close(store: &mut [u16], room: usize, count: usize, last: usize) -> Stepped
     })
 }
 
-// The variables in order, each with its clauses, behind the first clause.
-fn write_variables(text: &[u8], pair: Pair, store: &mut [u16], room: usize) -> Filled
+// The variables in order, each with its clauses, behind the first clause; how many clauses there are then, or 8.
+fn write_variables(
+    text: &[u8],
+    pair: Pair,
+    store: &mut [u16],
+    room: usize,
+) -> Result<usize, Refusal>
     requires { PairStands text.now pair × Space (length store.old) room × Held store.old (first_clause ∷ []) }
     ensures { (w : PairStands text.now pair) → FilledSays room (gates_up_to w.left w.right (gate_count pair)) store.new result }
 {
-    let end = pair.variables();
     let mut count: usize = 1;
-    let mut v = pair.first_gate();
-    while v < end {
+    for v in pair.first_gate()..pair.variables() {
         let d = variable(text, pair, v);
         let op = d.op;
         if room < count + clause_count(op) {
-            return Filled::Short;
+            return Err(Reason::Miter.at(0));
         }
         count = push_gate(store, count, op, d.n, d.x, d.y);
-        v += 1;
     }
-    Filled::UpTo(count)
+    Ok(count)
 }
 
 // All of the miter's clauses, and the state before the first step; or 8.
-pub fn begin(text: &[u8], pair: Pair, store: &mut [u16], room: usize) -> Stepped
+pub fn begin(text: &[u8], pair: Pair, store: &mut [u16], room: usize) -> Result<Progress, Refusal>
     requires { PairStands text.now pair × (clause_width * room ≤ length store.old) × (room ≤ most_clauses) }
     ensures { (w : PairStands text.now pair) → Says room (begin_of room w.left w.right) store.new result }
 {
     if room == 0 {
-        return Stepped::Refused(Refusal {
-            number: Refusal::MITER,
-            line: 0,
-        });
+        return Err(Reason::Miter.at(0));
     }
     put_unit(store, 0, Literal::negative(0));
-    let filled = write_variables(text, pair, store, room);
-    let Filled::UpTo(count) = filled else {
-        return Stepped::Refused(Refusal {
-            number: Refusal::MITER,
-            line: 0,
-        });
-    };
+    let count = write_variables(text, pair, store, room)?;
     close(store, room, count, pair.variables() - 1)
 }

@@ -7,8 +7,8 @@ ghost use Rattle.frame.specs.Frames.{op_of};
 ghost use Rattle.listing.specs.Listing.{gate_meant, no_gate};
 ghost use Rattle.miter.specs.Miters.{PairStands};
 
-use frame::Op;
-use listing::{Gate, gate_at, op_at, output_at};
+use frame::{Gate, Op};
+use listing::{gate_at, op_at, output_at};
 use literal::Literal;
 use netlist::Pair;
 
@@ -17,7 +17,7 @@ fn shift(inputs: usize, left: usize, l: u16) -> u16
     requires { (l < 4096) × (left ≤ most_gates) }
     ensures { result ≡ model.shift inputs left l }
 {
-    if Literal::of(l).variable() as usize <= inputs {
+    if Literal::from(l).variable() as usize <= inputs {
         return l;
     }
     l + 2 * (left as u16)
@@ -33,9 +33,8 @@ pub fn gate_of(text: &[u8], pair: Pair, k: usize) -> Gate
         return gate_at(text, 0, k);
     }
     let gate = gate_at(text, pair.place, k - left);
-    let op = gate.op;
     Gate {
-        op,
+        op: gate.op,
         x: shift(pair.inputs, left, gate.x),
         y: shift(pair.inputs, left, gate.y),
     }

@@ -30,10 +30,8 @@ pub fn first_z_clause(text: &[u8], pair: Pair) -> u16
 {
     let gates = pair.left + pair.right;
     let mut next = FIRST_GATE_CLAUSE;
-    let mut i: usize = 0;
-    while i < gates {
+    for i in 0..gates {
         next = behind(next, op_of(text, pair, i));
-        i += 1;
     }
     next
 }

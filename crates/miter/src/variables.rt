@@ -8,8 +8,7 @@ ghost use Rattle.listing.specs.Listing.{gate_meant, no_gate};
 ghost use Rattle.miter.specs.Miters.{PairStands, Defines, gate_count, w_variable, w_gate};
 
 use crate::both::{gate_of, outputs_of};
-use frame::Op;
-use listing::Gate;
+use frame::{Gate, Op};
 use literal::Literal;
 use netlist::Pair;
 
@@ -27,12 +26,11 @@ fn defined(v: usize, gate: Gate) -> Definition
     requires { v ≤ highest_variable }
     ensures { reads_below v (gate_meant gate) ≡ true → Defines result v (gate_meant gate) }
 {
-    let op = gate.op;
     Definition {
-        op,
+        op: gate.op,
         n: Literal::positive(v as u16),
-        x: Literal::of(gate.x),
-        y: Literal::of(gate.y),
+        x: Literal::from(gate.x),
+        y: Literal::from(gate.y),
     }
 }
 

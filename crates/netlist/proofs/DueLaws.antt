@@ -4,20 +4,18 @@ use Prim.Native.Nat.{ℕ, suc}
 use mathlib.Core.Path.{◌≡◌, refl}
 use mathlib.Core.Bool.{Bool, true, false}
 use mathlib.Core.List.{List, [], ◌∷◌}
-use types.Run.{OneOf, miss}
-use denote.Enum.Declared.{tag_of}
 use Rattle.model.specs.Answers.{Answer, guard, bind}
 use Rattle.model.specs.Answers.Answer.{ok, refused}
 use Rattle.model.specs.Lines.{Line}
 use Rattle.model.specs.Frames.{Frame, field, due_at, xor_kind}
 use Rattle.model.specs.Nets.{Netlist, size, is_below, reads_below}
 use Rattle.model.specs.Lists.{is_header, is_gate, is_output, in_range, gate_of, header_at, gate_at, output_at, add_gate, add_output, empty_list, read_outputs, read_gates, read_list}
-use Rattle.frame.specs.contracts.Line as LineType
-use Rattle.frame.specs.declared.Line as code
-use Rattle.frame.specs.declared.Line.TheVariants.{Read, End, Refused}
-use Rattle.frame.specs.Frames.{first, first_of}
+use Rattle.frame.specs.Frames.{First, first}
+use Rattle.frame.specs.Frames.First.{none, found, fault}
+use Rattle.refusal.specs.declared.Refusal.{Refusal}
+use Rattle.refusal.specs.Answers.{refused_by}
 use Rattle.frame.proofs.FirstLaws.{first_none, first_fault, Framed}
-use Rattle.netlist.specs.Says.{answer_of, missing_of}
+use Rattle.netlist.specs.Says.{MissingBy}
 
 -- ---- answers
 
@@ -43,14 +41,16 @@ pub record Due {A : Type 0} (due : ℕ → Bool) (line : ℕ) (R : List Line →
 
 module _ {A : Type 0} {due : ℕ → Bool} {line : ℕ} {R : List Line → Answer A} {K : Frame → List Line → Answer A} (d : Due due line R K) (ls : List Line) where
   -- no frame stands there
-  pub due_missing : (text : List ℕ) (got : code.Line) → first_of text got ≡ first ls line → OneOf (1 ∷ 2 ∷ []) (tag_of LineType.the_type got)
-      → R ls ≡ answer_of (missing_of got line)
+  pub due_missing : (r : Refusal) → MissingBy (first ls line) line r → R ls ≡ refused_by r
   unfolding due_at
-  due_missing text (Read f next) e k = absurd (miss (1 ∷ 2 ∷ []) 0 tt k)
-  due_missing text End e k = rw (first_none ls line e) d.ended
-  due_missing text (Refused number place) e k =
-      let r = first_fault ls line e in
-      rw (r.cut, d.next r.line_is r.rest, r.refusal)
+  due_missing r m = go (first ls line) refl m
+    where
+      go : (x : First) → x ≡ first ls line → MissingBy x line r → R ls ≡ refused_by r
+      go none e k = rw (first_none ls line e, k.0, k.1) d.ended
+      go (found f rest next) e k = absurd k
+      go (fault number place) e k =
+          let f = first_fault ls line e in
+          rw (f.cut, d.next f.line_is f.rest, f.refusal, k.0, k.1)
 
   -- a frame of another kind
   pub due_other : {f : Frame} {rest : List Line} {next : ℕ} → Framed ls line f rest next → due f.kind ≡ false → R ls ≡ refused 3 line

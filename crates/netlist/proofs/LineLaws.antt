@@ -1,30 +1,27 @@
 -- One line of a list, by what the cursor's reader answers: the reader's tests are the tests of the definition, in the same order.
-use Prim.Native.Nat.{ℕ, suc, ◌≤◌, ◌<◌}
+use Prim.Native.Nat.{ℕ, suc}
 use mathlib.Core.Path.{◌≡◌, refl, ◌∙◌}
 use mathlib.Core.Bool.{Bool, true, false, ◌&&◌}
 use mathlib.Core.List.{List, [], ◌∷◌}
-use types.Run.{OneOf, miss}
-use denote.Enum.Declared.{tag_of}
-use borrow.Author.Tests.{lt-ltb, le-leb}
+use borrow.Author.Tests.{ltb-true, leb-true}
 use lib.Dec.{ltb, leb}
 use Rattle.model.specs.Limits.{most_inputs, most_gates, most_outputs}
 use Rattle.model.specs.Answers.{Answer, guard, bind}
 use Rattle.model.specs.Answers.Answer.{ok, refused}
+use Rattle.model.specs.Lines.{Line}
+use Rattle.model.specs.Frames as model
 use Rattle.model.specs.Frames.{field, end_at, header_kind, xor_kind}
 use Rattle.model.specs.Nets.{Netlist, size, is_below}
 use Rattle.model.specs.Lists.{is_header, is_gate, is_output, in_range, gate_of, add_gate, add_output, empty_list, read_outputs, read_gates, read_list}
-use Rattle.frame.specs.contracts.Frame as FrameType
-use Rattle.frame.specs.contracts.Line as LineType
 use Rattle.frame.specs.declared.Cursor.{Cursor}
 use Rattle.frame.specs.declared.Op.{Op}
 use Rattle.frame.specs.declared.Op.TheVariants.{And, Xor}
 use Rattle.frame.specs.declared.Frame.{Frame}
 use Rattle.frame.specs.declared.Frame.TheVariants.{Header, Gate, Output, Resolve, Extend, Report}
-use Rattle.frame.specs.declared.Line.{Line}
-use Rattle.frame.specs.declared.Line.TheVariants.{Read, End, Refused}
-use Rattle.frame.specs.Frames.{gate_kind, frame_of, first, first_of, Inside}
+use Rattle.frame.specs.Frames.{gate_kind, frame_of, first, Inside}
+use Rattle.frame.specs.Frames.First.{none, found, fault}
 use Rattle.frame.proofs.FirstLaws.{first_none, first_fault, first_found, Framed}
-use Rattle.netlist.specs.Says.{from, answer_of, missing_of, HeaderRead, GateRead, OutputRead}
+use Rattle.netlist.specs.Says.{from, HeaderRead, GateRead, OutputRead}
 use Rattle.netlist.proofs.DueLaws.{guard_passed, guard_failed, due_other, due_read, header_due, gate_due, output_due}
 
 -- what follows a test follows inside it
@@ -35,34 +32,34 @@ bind_guard false number line o f = refl
 
 -- ---- kinds
 
-pub not_header : (f : Frame) → OneOf (1 ∷ 2 ∷ 3 ∷ 4 ∷ 5 ∷ []) (tag_of FrameType.the_type f) → is_header (frame_of f).kind ≡ false
-not_header (Header i g o) k = absurd (miss (1 ∷ 2 ∷ 3 ∷ 4 ∷ 5 ∷ []) 0 tt k)
-not_header (Gate And x y) k = refl
-not_header (Gate Xor x y) k = refl
-not_header (Output l) k = refl
-not_header (Resolve a b v) k = refl
-not_header (Extend And x y) k = refl
-not_header (Extend Xor x y) k = refl
-not_header (Report r n s c) k = refl
+pub not_header : (f : Frame) → ((i g o : ℕ) → f ≡ Header i g o → ⊥) → is_header (frame_of f).kind ≡ false
+not_header (Header i g o) other = absurd (other i g o refl)
+not_header (Gate And x y) other = refl
+not_header (Gate Xor x y) other = refl
+not_header (Output l) other = refl
+not_header (Resolve a b v) other = refl
+not_header (Extend And x y) other = refl
+not_header (Extend Xor x y) other = refl
+not_header (Report r n s c) other = refl
 
-pub not_gate : (f : Frame) → OneOf (0 ∷ 2 ∷ 3 ∷ 4 ∷ 5 ∷ []) (tag_of FrameType.the_type f) → is_gate (frame_of f).kind ≡ false
-not_gate (Header i g o) k = refl
-not_gate (Gate op x y) k = absurd (miss (0 ∷ 2 ∷ 3 ∷ 4 ∷ 5 ∷ []) 1 tt k)
-not_gate (Output l) k = refl
-not_gate (Resolve a b v) k = refl
-not_gate (Extend And x y) k = refl
-not_gate (Extend Xor x y) k = refl
-not_gate (Report r n s c) k = refl
+pub not_gate : (f : Frame) → ((op : Op) (x y : ℕ) → f ≡ Gate op x y → ⊥) → is_gate (frame_of f).kind ≡ false
+not_gate (Header i g o) other = refl
+not_gate (Gate op x y) other = absurd (other op x y refl)
+not_gate (Output l) other = refl
+not_gate (Resolve a b v) other = refl
+not_gate (Extend And x y) other = refl
+not_gate (Extend Xor x y) other = refl
+not_gate (Report r n s c) other = refl
 
-pub not_output : (f : Frame) → OneOf (0 ∷ 1 ∷ 3 ∷ 4 ∷ 5 ∷ []) (tag_of FrameType.the_type f) → is_output (frame_of f).kind ≡ false
-not_output (Header i g o) k = refl
-not_output (Gate And x y) k = refl
-not_output (Gate Xor x y) k = refl
-not_output (Output l) k = absurd (miss (0 ∷ 1 ∷ 3 ∷ 4 ∷ 5 ∷ []) 2 tt k)
-not_output (Resolve a b v) k = refl
-not_output (Extend And x y) k = refl
-not_output (Extend Xor x y) k = refl
-not_output (Report r n s c) k = refl
+pub not_output : (f : Frame) → ((l : ℕ) → f ≡ Output l → ⊥) → is_output (frame_of f).kind ≡ false
+not_output (Header i g o) other = refl
+not_output (Gate And x y) other = refl
+not_output (Gate Xor x y) other = refl
+not_output (Output l) other = absurd (other l refl)
+not_output (Resolve a b v) other = refl
+not_output (Extend And x y) other = refl
+not_output (Extend Xor x y) other = refl
+not_output (Report r n s c) other = refl
 
 gate_kind_lem : (op : Op) → is_gate (gate_kind op) ≡ true
 gate_kind_lem And = refl
@@ -70,9 +67,9 @@ gate_kind_lem Xor = refl
 
 -- ---- a line that was read
 
-module _ (text : List ℕ) (c : Cursor) (got : Line) (e : first_of text got ≡ first (from text c) c.line) (f : Frame) (next : Cursor) (is : got ≡ Read f next) where
+module _ (text : List ℕ) (c : Cursor) (f : Frame) (next : Cursor) (e : found (frame_of f) (from text next) next.line ≡ first (from text c) c.line) where
   framed : Framed (from text c) c.line (frame_of f) (from text next) next.line
-  framed = first_found (from text c) c.line (rw is at e)
+  framed = first_found (from text c) c.line e
 
   -- another frame than the due one
   pub header_other : is_header (frame_of f).kind ≡ false → (like : ℕ → ℕ → Bool) → read_list like (from text c) c.line ≡ refused 3 c.line
@@ -130,35 +127,41 @@ module _ (text : List ℕ) (c : Cursor) (got : Line) (e : first_of text got ≡ 
         → read_list like (from text c) c.line ≡ refused 5 c.line
     header_range h like = header_next like ∙ rw (guard_failed (in_range (frame_of f)) 5 c.line (guard (like i o) 6 c.line (ok (frame_of f))) (rw header h))
 
-    pub header_read : i ≤ most_inputs → g ≤ most_gates → 0 < o → o ≤ most_outputs → Inside text next
+    pub header_read : leb i most_inputs && leb g most_gates && ltb 0 o && leb o most_outputs ≡ true → Inside text next
         → HeaderRead text c (record { inputs = i; gates = g; outputs = o }) next
     unfolding guard
-    header_read a b d e' inside = record {
-      inside = inside;
-      inputs = a;
-      gates = b;
-      some = d;
-      outputs = e';
-      reads = λ like.
-          let h : in_range (frame_of f) ≡ true = rw (header, le-leb i most_inputs a, le-leb g most_gates b, lt-ltb 0 o d, le-leb o most_outputs e') in
-          header_next like
-          ∙ rw (guard_passed (in_range (frame_of f)) 5 c.line (guard (like i o) 6 c.line (ok (frame_of f))) h, framed.next_is, header)
-          (bind_guard (like i o) 6 c.line (ok (record { kind = header_kind; fields = i ∷ g ∷ o ∷ [] })) _);
-    }
+    header_read h inside =
+        let outs = both (leb i most_inputs && leb g most_gates && ltb 0 o) h in
+        let one = both (leb i most_inputs && leb g most_gates) outs.0 in
+        let gates = both (leb i most_inputs) one.0 in
+        record {
+          inside = inside;
+          inputs = leb-true i most_inputs gates.0;
+          gates = leb-true g most_gates gates.1;
+          some = ltb-true 0 o one.1;
+          outputs = leb-true o most_outputs outs.1;
+          reads = λ like.
+              header_next like
+              ∙ rw (guard_passed (in_range (frame_of f)) 5 c.line (guard (like i o) 6 c.line (ok (frame_of f))) (rw header h), framed.next_is, header)
+              (bind_guard (like i o) 6 c.line (ok (record { kind = header_kind; fields = i ∷ g ∷ o ∷ [] })) _);
+        }
+      where
+        both : (a : Bool) {b : Bool} → a && b ≡ true → (a ≡ true) × (b ≡ true)
+        both true e = (refl, e)
+        both false e = cc
 
 -- ---- the end
 
-module _ (text : List ℕ) (c : Cursor) (got : Line) (e : first_of text got ≡ first (from text c) c.line) where
-  pub end_none : got ≡ End → end_at (from text c) c.line ≡ ok tt
+module _ (text : List ℕ) (c : Cursor) where
+  pub end_none : none ≡ first (from text c) c.line → end_at (from text c) c.line ≡ ok tt
   unfolding end_at
-  end_none is = rw (first_none (from text c) c.line (rw is at e))
+  end_none e = rw (first_none (from text c) c.line e)
 
-  -- anything else is refused, and a frame is 3
-  pub end_other : OneOf (0 ∷ 2 ∷ []) (tag_of LineType.the_type got) → end_at (from text c) c.line ≡ answer_of (missing_of got c.line)
+  -- a frame is 3
+  pub end_other : {f : model.Frame} {rest : List Line} {next : ℕ} → found f rest next ≡ first (from text c) c.line → end_at (from text c) c.line ≡ refused 3 c.line
   unfolding end_at
-  end_other k = go got e k
-    where
-      go : (g : Line) → first_of text g ≡ first (from text c) c.line → OneOf (0 ∷ 2 ∷ []) (tag_of LineType.the_type g) → end_at (from text c) c.line ≡ answer_of (missing_of g c.line)
-      go (Read f next) e k = let r = first_found (from text c) c.line e in rw (r.cut, r.frame)
-      go End e k = absurd (miss (0 ∷ 2 ∷ []) 1 tt k)
-      go (Refused number place) e k = let r = first_fault (from text c) c.line e in rw (r.cut, r.refusal)
+  end_other e = let r = first_found (from text c) c.line e in rw (r.cut, r.frame)
+
+  pub end_fault : {number place : ℕ} → fault number place ≡ first (from text c) c.line → end_at (from text c) c.line ≡ refused number place
+  unfolding end_at
+  end_fault e = let r = first_fault (from text c) c.line e in rw (r.cut, r.refusal)

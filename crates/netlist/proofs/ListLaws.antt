@@ -6,6 +6,7 @@ use mathlib.Core.Bool.{Bool, true, false, and-false}
 use mathlib.Core.List.{List}
 use native.Mathlib.Omega.{arith}
 use lib.ListN.{length}
+use Rattle.std.specs.Prelude.{Result, Ok, Err}
 use borrow.Author.Tests.{eq-eqb, ne_eqb}
 use Rattle.model.specs.Limits.{most_gates, most_outputs}
 use Rattle.model.specs.Answers.Answer.{ok, refused}
@@ -15,13 +16,12 @@ use Rattle.model.specs.Nets.{Netlist, size}
 use Rattle.model.specs.Lists.{empty_list, read_outputs, read_gates, read_list, any_header, like_left, read_both, read_lists, read_one}
 use Rattle.laws.specs.Reading as reading
 use Rattle.frame.specs.declared.Cursor.{Cursor}
+use Rattle.refusal.specs.declared.Reason.TheVariants.{Unlike}
 use Rattle.refusal.specs.declared.Refusal.{Refusal}
+use Rattle.refusal.specs.Answers.{number_of, refused_by}
 use Rattle.netlist.specs.declared.Counts.{Counts}
 use Rattle.netlist.specs.declared.Pair.{Pair}
-use Rattle.netlist.specs.declared.Behind.{Behind}
-use Rattle.netlist.specs.declared.Part.TheVariants as PartCase
-use Rattle.netlist.specs.declared.Behind.TheVariants.{At, Refused}
-use Rattle.netlist.specs.Says.{from, answer_of, GatesRead, GatesSay, OutputsRead, OutputsSay, HeaderRead, BodyRead, BodySays, PartRead, RightRead, RightSays, refusal}
+use Rattle.netlist.specs.Says.{from, GatesRead, GatesSay, OutputsRead, OutputsSay, HeaderRead, BodyRead, BodySays, PartRead, RightRead, RightSays}
 use Rattle.netlist.specs.Replies.{counts_of, bytes_of, lines_of, pair_by, pair_of, both_of}
 use Rattle.netlist.proofs.DueLaws.{guard_passed, guard_failed}
 use Rattle.netlist.proofs.ReplyLaws.{BothLists, both_lists, both_none}
@@ -38,8 +38,8 @@ module _ (text : List ℕ) (c : Cursor) (k : Counts) (middle : Cursor) (g : Gate
       let m = q.1 in
       (q.0, m.inputs, omega (arith, m.gates), ap length m.outs, omega (arith, m.inputs, m.gates), q.2)
 
-  body_refused : (r : Refusal) → ((n : Netlist) → size n ≡ 1 + k.inputs + k.gates → read_outputs k.outputs n (from text middle) middle.line ≡ answer_of r)
-      → read_gates k.gates k.outputs (empty_list k.inputs) (from text c) c.line ≡ answer_of r
+  body_refused : (r : Refusal) → ((n : Netlist) → size n ≡ 1 + k.inputs + k.gates → read_outputs k.outputs n (from text middle) middle.line ≡ refused_by r)
+      → read_gates k.gates k.outputs (empty_list k.inputs) (from text c) c.line ≡ refused_by r
   body_refused r f = let n = all_gates in n.5 ∙ f n.0 n.4
 
   body_read : (next : Cursor) → OutputsRead text middle (1 + k.inputs + k.gates) k.outputs k.outputs next → BodyRead text c k next
@@ -62,12 +62,12 @@ module _ (text : List ℕ) (c : Cursor) (k : Counts) (middle : Cursor) (g : Gate
       }
 
   -- whatever the outputs' reader says
-  pub body_says : (r : Behind) → OutputsSay text middle (1 + k.inputs + k.gates) k.outputs r → BodySays text c k r
-  body_says (At next) o = body_read next o
-  body_says (Refused r) o = body_refused r o
+  pub body_says : (r : Result Cursor Refusal) → OutputsSay text middle (1 + k.inputs + k.gates) k.outputs r → BodySays text c k r
+  body_says (Ok next) o = body_read next o
+  body_says (Err r) o = body_refused r o
 
 -- the gates' reader refuses
-pub gates_refuse : (text : List ℕ) (c : Cursor) (k : Counts) (r : Refusal) → GatesSay text c (1 + k.inputs) k.gates (Refused r) → BodySays text c k (Refused r)
+pub gates_refuse : (text : List ℕ) (c : Cursor) (k : Counts) (r : Refusal) → GatesSay text c (1 + k.inputs) k.gates (Err r) → BodySays text c k (Err r)
 gates_refuse text c k r g = g k.outputs (empty_list k.inputs) (omega arith)
 
 -- ---- a list
@@ -79,7 +79,7 @@ module _ (text : List ℕ) (c : Cursor) (k : Counts) (body : Cursor) (h : Header
   passed like e = h.reads like ∙ guard_passed (like k.inputs k.outputs) 6 c.line _ e
 
   pub list_refused : (like : ℕ → ℕ → Bool) → like k.inputs k.outputs ≡ true → (r : Refusal)
-      → read_gates k.gates k.outputs (empty_list k.inputs) (from text body) body.line ≡ answer_of r → read_list like (from text c) c.line ≡ answer_of r
+      → read_gates k.gates k.outputs (empty_list k.inputs) (from text body) body.line ≡ refused_by r → read_list like (from text c) c.line ≡ refused_by r
   list_refused like e r b = passed like e ∙ b
 
   pub list_unlike : (like : ℕ → ℕ → Bool) → like k.inputs k.outputs ≡ false → read_list like (from text c) c.line ≡ refused 6 c.line
@@ -94,23 +94,27 @@ module _ (text : List ℕ) (c : Cursor) (k : Counts) (body : Cursor) (h : Header
 
 -- ---- a right list behind a left one with these counts
 
+-- the refusal of a header that is unlike the left
+abbrev unlike : ℕ → Refusal
+unlike line = record { reason = Unlike; line = line }
+
 module _ (text : List ℕ) (left : Counts) (c : Cursor) (k : Counts) (body : Cursor) (h : HeaderRead text c k body) where
-  pub unlike_inputs : (k.inputs ≡ left.inputs → ⊥) → RightSays text left c (PartCase.Refused (refusal 6 c.line))
+  pub unlike_inputs : (k.inputs ≡ left.inputs → ⊥) → RightSays text left c (Err (unlike c.line))
   unlike_inputs x n i o = list_unlike text c k body h (like_left n) (rw (i, ne_eqb k.inputs left.inputs x))
 
-  pub unlike_outputs : (k.outputs ≡ left.outputs → ⊥) → RightSays text left c (PartCase.Refused (refusal 6 c.line))
+  pub unlike_outputs : (k.outputs ≡ left.outputs → ⊥) → RightSays text left c (Err (unlike c.line))
   unlike_outputs x n i o = list_unlike text c k body h (like_left n) (rw (o, ne_eqb k.outputs left.outputs x, and-false))
 
   module _ (inputs : k.inputs ≡ left.inputs) (outputs : k.outputs ≡ left.outputs) where
     alike : (n : Netlist) → n.inputs ≡ left.inputs → length n.outs ≡ left.outputs → like_left n k.inputs k.outputs ≡ true
     alike n i o = rw (i, o, eq-eqb k.inputs left.inputs inputs, eq-eqb k.outputs left.outputs outputs)
 
-    pub right_refused : (r : Refusal) → BodySays text body k (Refused r) → RightSays text left c (PartCase.Refused r)
+    pub right_refused : (r : Refusal) → BodySays text body k (Err r) → RightSays text left c (Err r)
     right_refused r e n i o = list_refused text c k body h (like_left n) (alike n i o) r e
 
-    pub right_read : (next : Cursor) → BodyRead text body k next → RightRead text left c k next
+    pub right_read : (next : Cursor) → BodyRead text body k next → RightRead text left c k
     right_read next e =
-        record { list = e.list; listed = e.listed; reads = λ n i o. list_read text c k body h (like_left n) (alike n i o) next e }
+        record { list = e.list; next = next; listed = e.listed; reads = λ n i o. list_read text c k body h (like_left n) (alike n i o) next e }
 
 -- ---- both lists
 
@@ -130,11 +134,11 @@ module _ (text : List ℕ) (k : Counts) (middle : Cursor) (a : PartRead text fir
   second : (like : ℕ → ℕ → Bool) → read_list like a.list.rest a.list.line ≡ read_list like (from text middle) middle.line
   second like = rw (a.listed.rest, a.listed.line)
 
-  pub right_refused_both : (r : Refusal) → RightSays text k middle (PartCase.Refused r) → answer_of r ≡ both_of (read_both text)
+  pub right_refused_both : (r : Refusal) → RightSays text k middle (Err r) → refused_by r ≡ both_of (read_both text)
   unfolding read_both
   right_refused_both r e = rw (a.reads, second (like_left a.list.list), e a.list.list a.listed.inputs a.listed.outputs)
 
-  module _ (right : Counts) (next : Cursor) (b : RightRead text k middle right next) where
+  module _ (right : Counts) (b : RightRead text k middle right) where
     reads : read_list (like_left a.list.list) (from text middle) middle.line ≡ ok b.list
     reads = b.reads a.list.list a.listed.inputs a.listed.outputs
 
@@ -145,18 +149,18 @@ module _ (text : List ℕ) (k : Counts) (middle : Cursor) (a : PartRead text fir
     unfolding read_both
     both_paired = rw (a.reads, second (like_left a.list.list), reads, a.listed.inputs, a.listed.gates, a.listed.outputs, b.listed.gates)
 
-pub left_refused : (text : List ℕ) (r : Refusal) → read_list any_header (from text first) 1 ≡ answer_of r → answer_of r ≡ both_of (read_both text)
+pub left_refused : (text : List ℕ) (r : Refusal) → read_list any_header (from text first) 1 ≡ refused_by r → refused_by r ≡ both_of (read_both text)
 unfolding read_both
 left_refused text r e = rw e
 
 -- ---- one list, and nothing behind it
 
-pub one_refused : (text : List ℕ) (r : Refusal) → read_list any_header (from text first) 1 ≡ answer_of r → answer_of r ≡ counts_of (read_one text)
+pub one_refused : (text : List ℕ) (r : Refusal) → read_list any_header (from text first) 1 ≡ refused_by r → refused_by r ≡ counts_of (read_one text)
 unfolding read_one
 one_refused text r e = rw e
 
 module _ (text : List ℕ) (k : Counts) (next : Cursor) (a : PartRead text first k next) where
-  pub one_more : (r : Refusal) → end_at (from text next) next.line ≡ answer_of r → answer_of r ≡ counts_of (read_one text)
+  pub one_more : (r : Refusal) → end_at (from text next) next.line ≡ refused_by r → refused_by r ≡ counts_of (read_one text)
   unfolding read_one
   one_more r e = rw (a.reads, a.listed.rest, a.listed.line, e)
 
@@ -166,15 +170,15 @@ module _ (text : List ℕ) (k : Counts) (next : Cursor) (a : PartRead text first
 
 -- ---- two lists, and nothing behind them
 
-pub lists_refused : (text : List ℕ) (r : Refusal) → answer_of r ≡ both_of (read_both text) → answer_of r ≡ pair_of (read_lists text)
+pub lists_refused : (text : List ℕ) (r : Refusal) → refused_by r ≡ both_of (read_both text) → refused_by r ≡ pair_of (read_lists text)
 unfolding read_lists
-lists_refused text r e = rw (both_none text r.number r.line e)
+lists_refused text r e = rw (both_none text (number_of r.reason) r.line e)
 
 module _ (text : List ℕ) (p : Pair) (e : ok p ≡ both_of (read_both text)) where
   both : BothLists text p
   both = both_lists text p e
 
-  pub lists_more : (r : Refusal) → end_at (from text p.next) p.next.line ≡ answer_of r → answer_of r ≡ pair_of (read_lists text)
+  pub lists_more : (r : Refusal) → end_at (from text p.next) p.next.line ≡ refused_by r → refused_by r ≡ pair_of (read_lists text)
   unfolding read_lists
   lists_more r h = rw (both.reads, both.rest, both.line, h)
 

@@ -5,8 +5,6 @@ use mathlib.Core.Bool.{Bool, true, false, ◌&&◌}
 use mathlib.Core.List.{List, [], ◌∷◌}
 use native.Mathlib.Nat.{add-zero}
 use native.Mathlib.Omega.{arith}
-use types.Run.{OneOf}
-use denote.Enum.Declared.{tag_of}
 use lib.ListN.{length}
 use Rattle.laws.specs.ListText.{gate_bytes, output_bytes}
 use Rattle.model.specs.Frames as model
@@ -16,16 +14,14 @@ use Rattle.frame.specs.declared.Cursor.{Cursor}
 use Rattle.frame.specs.declared.Op.{Op}
 use Rattle.frame.specs.declared.Frame.{Frame}
 use Rattle.frame.specs.declared.Frame.TheVariants.{Gate, Output}
-use Rattle.frame.specs.declared.Line.TheVariants.{Read}
-use Rattle.frame.specs.contracts.kinds.Kind as KindType
-use Rattle.frame.specs.declared.kinds.Kind.{Kind}
-use Rattle.frame.specs.Frames.{first as first_line, first_of, frame_of, gate_kind, Inside}
-use Rattle.frame.specs.Kinds.{KindSays, Unframed}
+use Rattle.frame.specs.Frames.{first as first_line, frame_of, gate_kind, Inside}
+use Rattle.frame.specs.Frames.First.{found}
+use Rattle.frame.specs.declared.Gate.{Gate as GateLine}
 use Rattle.frame.specs.Fields.{LineAt}
+use Rattle.frame.specs.Rows.{Lacks, gate_frame}
 use Rattle.frame.proofs.FirstLaws.{found_same}
-use Rattle.frame.proofs.KindLaws.{found_framed, only_gate, only_output}
 use Rattle.netlist.specs.Says.{from, GatesRead, OutputsRead}
-use Rattle.netlist.specs.Plain.{cursor, NoGate, PlainGate, Row, NoOutput, PlainOutput, OutputRow}
+use Rattle.netlist.specs.Plain.{cursor, NoGate, PlainGate, Row, PlainOutput, OutputRow}
 use Rattle.netlist.proofs.LineLaws.{gate_read, output_read}
 use Rattle.netlist.proofs.LoopLaws.{gates_none, gates_more, outputs_none, outputs_more}
 
@@ -33,37 +29,27 @@ use Rattle.netlist.proofs.LoopLaws.{gates_none, gates_more, outputs_none, output
 
 -- a line that has this frame, as a line that was read
 module _ (text : List ℕ) (at : ℕ) (f : Frame) {n : ℕ} (l : LineAt text at (suc n) (frame_of f).kind (frame_of f).fields) (line : ℕ) where
-  reads : first_of text (Read f (cursor (at + suc n) (line + 1))) ≡ first_line (from text (cursor at line)) line
+  reads : found (frame_of f) (from text (cursor (at + suc n) (line + 1))) (line + 1) ≡ first_line (from text (cursor at line)) line
   reads = let s : line + 1 ≡ suc line = omega arith in rw s (l.framed line)
 
   inside : line ≤ suc at → Inside text (cursor (at + suc n) (line + 1))
   inside h = record { at = l.room; line = omega arith }
 
 module _ (text : List ℕ) (at : ℕ) where
-  -- a line of another kind
-  pub not_gate : at ≤ length text → (k : Kind) → OneOf (0 ∷ 2 ∷ 3 ∷ 4 ∷ 5 ∷ 6 ∷ []) (tag_of KindType.the_type k) → KindSays text at k → (net : ℕ) → NoGate text at net
-  not_gate i k t says net line next op x y rest e = absurd (only_gate text at line i e op refl k t says)
-
-  pub not_output : at ≤ length text → (k : Kind) → OneOf (0 ∷ 1 ∷ 3 ∷ 4 ∷ 5 ∷ 6 ∷ []) (tag_of KindType.the_type k) → KindSays text at k → (nets : ℕ) → NoOutput text at nets
-  not_output i k t says nets line next x rest e = absurd (only_output text at line i e refl k t says)
-
-  -- one that is refused
-  pub refused_gate : at ≤ length text → Unframed text at → (net : ℕ) → NoGate text at net
-  refused_gate i u net line next op x y rest e = absurd (found_framed text at line i e u)
-
-  pub refused_output : at ≤ length text → Unframed text at → (nets : ℕ) → NoOutput text at nets
-  refused_output i u nets line next x rest e = absurd (found_framed text at line i e u)
+  -- no gate
+  pub no_gate : ((g : GateLine) → Lacks text at (gate_frame g)) → (net : ℕ) → NoGate text at net
+  no_gate lacks net line next op x y rest e = absurd (lacks (record { op = op; x = x; y = y }) line next rest e)
 
   -- a gate, and an output, whether or not it reads nets that it may
   pub plain_gate : (op : Op) (x y : ℕ) → LineAt text at gate_bytes (gate_kind op) (x ∷ y ∷ []) → (net : ℕ) (r : Bool) → r ≡ is_below net x && is_below net y → PlainGate text at net r
   plain_gate op x y l net true e =
-      λ line h. gate_read text (cursor at line) _ (reads text at (Gate op x y) l line) (Gate op x y) _ refl op x y refl net (sym e) (inside text at (Gate op x y) l line h)
+      λ line h. gate_read text (cursor at line) (Gate op x y) _ (reads text at (Gate op x y) l line) op x y refl net (sym e) (inside text at (Gate op x y) l line h)
   plain_gate op x y l net false e =
       λ line next o u v rest f. ap (λ (g : model.Frame). is_below net (field g 0) && is_below net (field g 1)) (found_same (f ∙ sym (l.framed line))) ∙ sym e
 
   pub plain_output : (x : ℕ) → LineAt text at output_bytes output_kind (x ∷ []) → (nets : ℕ) (r : Bool) → r ≡ is_below nets x → PlainOutput text at nets r
   plain_output x l nets true e =
-      λ line h. output_read text (cursor at line) _ (reads text at (Output x) l line) (Output x) _ refl x refl nets (sym e) (inside text at (Output x) l line h)
+      λ line h. output_read text (cursor at line) (Output x) _ (reads text at (Output x) l line) x refl nets (sym e) (inside text at (Output x) l line h)
   plain_output x l nets false e =
       λ line next u rest f. ap (λ (g : model.Frame). is_below nets (field g 0)) (found_same (f ∙ sym (l.framed line))) ∙ sym e
 

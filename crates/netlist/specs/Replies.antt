@@ -1,29 +1,14 @@
--- The calls' replies: the counts of one list, two lists and their places, or a refusal.
+-- What the calls' replies hold of the definitions' answers: the counts of one list, two lists and their places.
 use Rattle.std.specs.Prelude.{ℕ, ◌+◌, ◌*◌, length}
 use Rattle.model.specs.Answers.{Answer, bind}
 use Rattle.model.specs.Answers.Answer.{ok}
 use Rattle.model.specs.Nets.{Netlist}
 use Rattle.model.specs.Lists.{Lists, ListsRead}
 use Rattle.laws.specs.ListText.{header_bytes, gate_bytes, output_bytes}
-use Rattle.refusal.specs.declared.Refusal.{Refusal}
 use Rattle.netlist.specs.declared.Counts.{Counts}
 use Rattle.netlist.specs.declared.Pair.{Pair}
-use Rattle.netlist.specs.declared.One as one
-use Rattle.netlist.specs.declared.One.TheVariants as OneCase
-use Rattle.netlist.specs.declared.Both as both
-use Rattle.netlist.specs.declared.Both.TheVariants as BothCase
-use Rattle.netlist.specs.Says.{refusal, answer_of}
 
 -- ---- one list
-
--- the refusal that an answer holds; where it holds none, nothing is said
-abbrev pub one_refusal : one.One → Refusal
-one_refusal (OneCase.Counted k) = refusal 0 0
-one_refusal (OneCase.Refused r) = r
-
-abbrev pub counts_reply : one.One → Answer Counts
-counts_reply (OneCase.Counted k) = ok k
-counts_reply (OneCase.Refused r) = answer_of r
 
 abbrev pub counts : Netlist → Counts
 counts n = record { inputs = n.inputs; gates = length n.gates; outputs = length n.outs }
@@ -32,14 +17,6 @@ abbrev pub counts_of : Answer Netlist → Answer Counts
 counts_of a = bind a λ n. ok (counts n)
 
 -- ---- two lists
-
-abbrev pub both_refusal : both.Both → Refusal
-both_refusal (BothCase.Paired p) = refusal 0 0
-both_refusal (BothCase.Refused r) = r
-
-abbrev pub pair_reply : both.Both → Answer Pair
-pair_reply (BothCase.Paired p) = ok p
-pair_reply (BothCase.Refused r) = answer_of r
 
 -- the bytes and the lines of a list with so many gates and outputs
 abbrev pub bytes_of : ℕ → ℕ → ℕ

@@ -10,41 +10,21 @@ ghost use Rattle.frame.specs.Frames.{Inside};
 ghost use Rattle.model.specs.Limits.{most_gates, most_outputs};
 ghost use Rattle.model.specs.Lists.{read_one, read_both, read_lists};
 ghost use Rattle.netlist.specs.Within.{Within};
-ghost use Rattle.netlist.specs.Says.{PartSays, RightSays, part_refusal, behind_refusal};
-ghost use Rattle.netlist.specs.Replies.{one_refusal, both_refusal, counts_reply, pair_reply, counts_of, bytes_of, pair_by, pair_of, both_of};
+ghost use Rattle.refusal.specs.Answers.{answer_of};
+ghost use Rattle.netlist.specs.Says.{PartSays, RightSays};
+ghost use Rattle.netlist.specs.Replies.{counts_of, bytes_of, pair_by, pair_of, both_of};
 
 use frame::Cursor;
 use frame::kinds::{GATE_BYTES, HEADER_BYTES, OUTPUT_BYTES};
 use lines::{read_body, read_end, read_header};
-use refusal::Refusal;
+use refusal::{Reason, Refusal};
 
 // What a header states.
-#[derive(Clone, Copy)]
+#[derive(Clone, Copy, PartialEq, Eq)]
 pub struct Counts {
     pub inputs: usize,
     pub gates: usize,
     pub outputs: usize,
-}
-
-// A header, or a whole list, and the cursor behind it.
-#[derive(Clone, Copy)]
-enum Part {
-    Counted(Counts, Cursor),
-    Refused(Refusal),
-}
-
-// The cursor behind what was read.
-#[derive(Clone, Copy)]
-enum Behind {
-    At(Cursor),
-    Refused(Refusal),
-}
-
-// One list and nothing behind it.
-#[derive(Clone, Copy)]
-pub enum One {
-    Counted(Counts),
-    Refused(Refusal),
 }
 
 // Two lists: their shared inputs and outputs, the gates of the left and of the right, the place of the right list, and the cursor behind both.
@@ -56,72 +36,6 @@ pub struct Pair {
     pub outputs: usize,
     pub place: usize,
     pub next: Cursor,
-}
-
-#[derive(Clone, Copy)]
-pub enum Both {
-    Paired(Pair),
-    Refused(Refusal),
-}
-
-impl Part {
-    // The refusal, to be handed upward.
-    pub fn refusal(self) -> Refusal
-        ensures { result ≡ part_refusal self }
-    {
-        match self {
-            Part::Counted(_, _) => Refusal {
-                number: Refusal::NONE,
-                line: 0,
-            },
-            Part::Refused(r) => r,
-        }
-    }
-}
-
-impl Behind {
-    // The refusal, to be handed upward.
-    pub fn refusal(self) -> Refusal
-        ensures { result ≡ behind_refusal self }
-    {
-        match self {
-            Behind::At(_) => Refusal {
-                number: Refusal::NONE,
-                line: 0,
-            },
-            Behind::Refused(r) => r,
-        }
-    }
-}
-
-impl One {
-    // The refusal, to be handed upward.
-    pub fn refusal(self) -> Refusal
-        ensures { result ≡ one_refusal self }
-    {
-        match self {
-            One::Counted(_) => Refusal {
-                number: Refusal::NONE,
-                line: 0,
-            },
-            One::Refused(r) => r,
-        }
-    }
-}
-
-impl Both {
-    // The refusal, to be handed upward.
-    pub fn refusal(self) -> Refusal
-        ensures { result ≡ both_refusal self }
-    {
-        match self {
-            Both::Paired(_) => Refusal {
-                number: Refusal::NONE,
-                line: 0,
-            },
-            Both::Refused(r) => r,
-        }
-    }
 }
 
 // The variables of the two lists' miter (document 01, 'The miter's clauses'): 0 and the inputs, then part by part.
@@ -175,49 +89,30 @@ impl Pair {
     }
 }
 
-// A list at a cursor.
-fn read_part(text: &[u8], cursor: Cursor) -> Part
+// A list at a cursor, and the cursor behind it.
+fn read_part(text: &[u8], cursor: Cursor) -> Result<(Counts, Cursor), Refusal>
     requires { Inside text.now cursor }
     ensures { PartSays text.now cursor result }
 {
-    let header = read_header(text, cursor);
-    let Part::Counted(counts, body) = header else {
-        return Part::Refused(header.refusal());
-    };
-    let behind = read_body(text, body, counts);
-    let Behind::At(next) = behind else {
-        return Part::Refused(behind.refusal());
-    };
-    Part::Counted(counts, next)
+    let (counts, body) = read_header(text, cursor)?;
+    let next = read_body(text, body, counts)?;
+    Ok((counts, next))
 }
 
 // The right list behind a left one: its header is held to the left's before its gates are read.
-fn read_right(text: &[u8], left: Counts, middle: Cursor) -> Part
+fn read_right(text: &[u8], left: Counts, middle: Cursor) -> Result<Counts, Refusal>
     requires { Inside text.now middle }
     ensures { RightSays text.now left middle result }
 {
-    let line = middle.line;
-    let header = read_header(text, middle);
-    let Part::Counted(counts, body) = header else {
-        return header;
-    };
+    let (counts, body) = read_header(text, middle)?;
     if counts.inputs != left.inputs {
-        return Part::Refused(Refusal {
-            number: Refusal::UNLIKE,
-            line,
-        });
+        return Err(Reason::Unlike.at(middle.line));
     }
     if counts.outputs != left.outputs {
-        return Part::Refused(Refusal {
-            number: Refusal::UNLIKE,
-            line,
-        });
+        return Err(Reason::Unlike.at(middle.line));
     }
-    let behind = read_body(text, body, counts);
-    let Behind::At(next) = behind else {
-        return Part::Refused(behind.refusal());
-    };
-    Part::Counted(counts, next)
+    read_body(text, body, counts)?;
+    Ok(counts)
 }
 
 // The bytes of a list: its lines have fixed lengths.
@@ -251,47 +146,28 @@ fn pair_of(left: Counts, right: usize) -> Pair
 }
 
 // The checker's text: the left list and the right list, and whatever stands behind them.
-pub fn read_both(text: &[u8]) -> Both
-    ensures { pair_reply result ≡ both_of (read_both text.now) }
+pub fn read_both(text: &[u8]) -> Result<Pair, Refusal>
+    ensures { answer_of result ≡ both_of (read_both text.now) }
 {
-    let left = read_part(text, Cursor { at: 0, line: 1 });
-    let Part::Counted(counts, middle) = left else {
-        return Both::Refused(left.refusal());
-    };
-    let right = read_right(text, counts, middle);
-    let Part::Counted(other, _) = right else {
-        return Both::Refused(right.refusal());
-    };
-    Both::Paired(pair_of(counts, other.gates))
+    let (left, middle) = read_part(text, Cursor { at: 0, line: 1 })?;
+    let right = read_right(text, left, middle)?;
+    Ok(pair_of(left, right.gates))
 }
 
 // The evaluator's text: one list, and nothing behind it.
-pub fn read_list(text: &[u8]) -> One
-    ensures { counts_reply result ≡ counts_of (read_one text.now) }
+pub fn read_list(text: &[u8]) -> Result<Counts, Refusal>
+    ensures { answer_of result ≡ counts_of (read_one text.now) }
 {
-    let list = read_part(text, Cursor { at: 0, line: 1 });
-    let Part::Counted(counts, next) = list else {
-        return One::Refused(list.refusal());
-    };
-    let end = read_end(text, next);
-    let Behind::At(_) = end else {
-        return One::Refused(end.refusal());
-    };
-    One::Counted(counts)
+    let (counts, next) = read_part(text, Cursor { at: 0, line: 1 })?;
+    read_end(text, next)?;
+    Ok(counts)
 }
 
 // The engine's text: two lists, and nothing behind them.
-pub fn read_lists(text: &[u8]) -> Both
-    ensures { pair_reply result ≡ pair_of (read_lists text.now) }
+pub fn read_lists(text: &[u8]) -> Result<Pair, Refusal>
+    ensures { answer_of result ≡ pair_of (read_lists text.now) }
 {
-    let both = read_both(text);
-    let Both::Paired(pair) = both else {
-        return both;
-    };
-    let next = pair.next;
-    let end = read_end(text, next);
-    let Behind::At(_) = end else {
-        return Both::Refused(end.refusal());
-    };
-    Both::Paired(pair)
+    let pair = read_both(text)?;
+    read_end(text, pair.next)?;
+    Ok(pair)
 }

@@ -5,6 +5,7 @@ ghost use Rattle.std.specs.Prelude.{◌≤◌};
 ghost use Rattle.model.specs.Limits.{highest_line};
 ghost use Rattle.model.specs.Frames.{line_of, stated_line};
 ghost use Rattle.frame.specs.Frames.{frame_of, report};
+ghost use Rattle.refusal.specs.Answers.{number_of};
 ghost use Rattle.printed.specs.Printing.{Prints};
 
 use frame::fields::line_len;
@@ -25,7 +26,7 @@ pub fn frame_line(frame: Frame) -> Printed
     ensures { Prints result (line_of (frame_of frame)) }
 {
     let mut line = [0u8; REPORT_BYTES];
-    write_frame(frame, &mut line);
+    let _ = write_frame(frame, &mut line);
     Printed {
         line,
         len: line_len(frame),
@@ -35,10 +36,10 @@ pub fn frame_line(frame: Frame) -> Printed
 // A refusal's report frame.
 pub fn refusal_line(refusal: Refusal) -> Printed
     requires { refusal.line ≤ highest_line }
-    ensures { Prints result (line_of (report refusal.number refusal.line 0 0)) }
+    ensures { Prints result (line_of (report (number_of refusal.reason) refusal.line 0 0)) }
 {
     frame_line(Frame::Report {
-        refusal: refusal.number,
+        refusal: refusal.reason.number(),
         line: refusal.line,
         steps: 0,
         clauses: 0,

@@ -1,67 +1,68 @@
-// Refusals (document 01, 'Refusals by the place of the check'): each number once, by name, in the order of the table.
+// Refusals (document 01, 'Refusals by the place of the check'): each number once, by name, in the order of the table, and a refusal with its
+// place. What a call answers is a `Result` with a refusal as its error, and `specs/Answers` gives the paper's answer for it.
 #![tactic(auto)]
 
-#[derive(Clone, Copy)]
-pub struct Refusal {
-    pub number: u8,
-    pub line: usize,
+ghost use Rattle.std.specs.Prelude.{◌≡◌};
+ghost use Rattle.refusal.specs.Answers.{number_of};
+
+#[derive(Clone, Copy, PartialEq, Eq)]
+pub enum Reason {
+    // A program's stream is over 65,536 bytes.
+    Stream = 1,
+    // A line's bytes are no digits, or the text ends within it.
+    Bytes = 2,
+    // A frame's kind is not due, its length is wrong, or a field does not fit it.
+    Frame = 3,
+    // The text ended where a list's frame is due.
+    End = 4,
+    // A header's count is outside its range.
+    Count = 5,
+    // A right header is unlike the left.
+    Unlike = 6,
+    // A literal is over a net not allowed there.
+    Net = 7,
+    // The store is too short for the miter's clauses.
+    Miter = 8,
+    // There is no clause of this number.
+    Clause = 9,
+    // The pivot is missing from one of the clauses.
+    Pivot = 10,
+    // The resolvent is too long.
+    Length = 11,
+    // An operand's variable is not in use.
+    Operand = 12,
+    // No variable is left.
+    Variable = 13,
+    // The store lacks space for a step's clauses.
+    Store = 14,
+    // The last step is no empty resolvent.
+    Empty = 15,
+    // What is to be written does not fit.
+    Room = 16,
+    // The working memory is short.
+    Work = 17,
+    // The forms of an output differ.
+    Forms = 18,
 }
 
-impl Refusal {
-    // No refusal.
-    pub const NONE: u8 = 0;
+impl Reason {
+    pub fn number(self) -> u8
+        ensures { result ≡ number_of self }
+    {
+        self as u8
+    }
 
-    // A program's stream is over 65,536 bytes.
-    pub const STREAM: u8 = 1;
+    // The refusal for this reason at a line.
+    pub fn at(self, line: usize) -> Refusal
+        ensures { result ≡ record { reason = self; line = line } }
+    {
+        Refusal { reason: self, line }
+    }
+}
 
-    // A line's bytes are no digits, or the text ends within it.
-    pub const BYTES: u8 = 2;
-
-    // A frame's kind is not due, its length is wrong, or a field does not fit it.
-    pub const FRAME: u8 = 3;
-
-    // The text ended where a list's frame is due.
-    pub const END: u8 = 4;
-
-    // A header's count is outside its range.
-    pub const COUNT: u8 = 5;
-
-    // A right header is unlike the left.
-    pub const UNLIKE: u8 = 6;
-
-    // A literal is over a net not allowed there.
-    pub const NET: u8 = 7;
-
-    // The store is too short for the miter's clauses.
-    pub const MITER: u8 = 8;
-
-    // There is no clause of this number.
-    pub const CLAUSE: u8 = 9;
-
-    // The pivot is missing from one of the clauses.
-    pub const PIVOT: u8 = 10;
-
-    // The resolvent is too long.
-    pub const LENGTH: u8 = 11;
-
-    // An operand's variable is not in use.
-    pub const OPERAND: u8 = 12;
-
-    // No variable is left.
-    pub const VARIABLE: u8 = 13;
-
-    // The store lacks space for a step's clauses.
-    pub const STORE: u8 = 14;
-
-    // The last step is no empty resolvent.
-    pub const EMPTY: u8 = 15;
-
-    // What is to be written does not fit.
-    pub const ROOM: u8 = 16;
-
-    // The working memory is short.
-    pub const WORK: u8 = 17;
-
-    // The forms of an output differ.
-    pub const FORMS: u8 = 18;
+// A reason, and the line of its place: 0 where it has none.
+#[derive(Clone, Copy, PartialEq, Eq)]
+pub struct Refusal {
+    pub reason: Reason,
+    pub line: usize,
 }

@@ -4,6 +4,7 @@ use mathlib.Core.Path.{◌≡◌, sym, ap}
 use mathlib.Core.List.{List}
 use native.Mathlib.Omega.{arith}
 use lib.ListN.{length}
+use Rattle.std.specs.Prelude.{Result, Ok, Err}
 use Rattle.model.specs.Limits.{most_clauses, highest_line}
 use Rattle.model.specs.Answers.{Answer}
 use Rattle.model.specs.Answers.Answer.{ok, refused}
@@ -15,16 +16,17 @@ use Rattle.laws.specs.Places.Placed.{result, place}
 use Rattle.laws.specs.Streams.{over_limit, within_limit}
 use Rattle.laws.specs.Printed.{judge_placed}
 use Rattle.frame.specs.Frames.{report}
-use Rattle.checker.specs.declared.Checked.{Checked}
-use Rattle.checker.specs.declared.Checked.TheVariants.{Accepted, Refused}
-use Rattle.checker.specs.Verdicts.{Counted, checked_of, counted_of}
+use Rattle.refusal.specs.declared.Refusal.{Refusal}
+use Rattle.refusal.specs.Answers.{answer_of}
+use Rattle.checker.specs.declared.Accepted.{Accepted}
+use Rattle.checker.specs.Verdicts.{counted_of}
 use Rattle.reports.specs.Reports.{Fits}
 
 -- ---- the report of each case
 
-pub accepted_report : (steps clauses : ℕ) (a : Answer State) → ok (record { steps = steps; clauses = clauses }) ≡ counted_of a → report 0 0 steps clauses ≡ report_of a
-accepted_report steps clauses (ok s) e = ap (λ (c : Counted). report 0 0 c.steps c.clauses) (ok_injective e)
-accepted_report steps clauses (refused number line) e = absurd (refused_not_ok (sym e))
+pub accepted_report : (c : Accepted) (a : Answer State) → ok c ≡ counted_of a → report 0 0 c.steps c.clauses ≡ report_of a
+accepted_report c (ok s) e = ap (λ (c : Accepted). report 0 0 c.steps c.clauses) (ok_injective e)
+accepted_report c (refused number line) e = absurd (refused_not_ok (sym e))
 
 pub refused_report : (number line : ℕ) (a : Answer State) → refused number line ≡ counted_of a → report number line 0 0 ≡ report_of a
 refused_report number line (ok s) e = absurd (refused_not_ok e)
@@ -32,15 +34,15 @@ refused_report number line (refused m l) e = cc
 
 -- ---- what there are digits for
 
-fit : {room most : ℕ} {a : Answer State} → Placed (Counts room) most a → room ≤ most_clauses → most ≤ highest_line → (c : Checked) → checked_of c ≡ counted_of a → Fits c
-fit (result k) r h (Accepted steps clauses) e =
+fit : {room most : ℕ} {a : Answer State} → Placed (Counts room) most a → room ≤ most_clauses → most ≤ highest_line → (c : Result Accepted Refusal) → answer_of c ≡ counted_of a → Fits c
+fit (result k) r h (Ok c) e =
     let i = ok_injective e in
-    let s = ap (λ (c : Counted). c.steps) i in
-    let m = ap (λ (c : Counted). c.clauses) i in
+    let s = ap (λ (c : Accepted). c.steps) i in
+    let m = ap (λ (c : Accepted). c.clauses) i in
     (omega (arith, s, m, k.steps, k.clauses), omega (arith, m, k.clauses))
-fit (result k) r h (Refused x) e = absurd (refused_not_ok e)
-fit (place number line some few) r h (Accepted steps clauses) e = absurd (refused_not_ok (sym e))
-fit (place number line some few) r h (Refused x) e = let l : x.line ≡ line = cc in omega arith
+fit (result k) r h (Err x) e = absurd (refused_not_ok e)
+fit (place number line some few) r h (Ok c) e = absurd (refused_not_ok (sym e))
+fit (place number line some few) r h (Err x) e = let l : x.line ≡ line = cc in omega arith
 
 -- ---- the two ways to a verdict
 
@@ -53,5 +55,5 @@ module _ (bytes numbers : ℕ) (stream : List ℕ) where
   unfolding judge
   checked h = within_limit bytes stream _ h
 
-  pub judge_fits : bytes < highest_line → (c : Checked) → checked_of c ≡ counted_of (judge bytes numbers stream) → Fits c
+  pub judge_fits : bytes < highest_line → (c : Result Accepted Refusal) → answer_of c ≡ counted_of (judge bytes numbers stream) → Fits c
   judge_fits few c e = fit (judge_placed bytes numbers stream few) (omega arith) (omega arith) c e

@@ -8,38 +8,36 @@ ghost use Rattle.model.specs.Answers.{Answer};
 ghost use Rattle.model.specs.Frames.{line_of};
 ghost use Rattle.model.specs.Steps.{State};
 ghost use Rattle.model.specs.Checker as model;
-ghost use Rattle.checker.specs.Verdicts.{checked_of, counted_of};
+ghost use Rattle.checker.specs.Verdicts.{counted_of};
+ghost use Rattle.refusal.specs.Answers.{answer_of};
 ghost use Rattle.reports.specs.Reports.{Fits};
 
-use checker::{Checked, check};
-use clearing::clear_numbers;
+use checker::{Accepted, check};
+use clearing::clear;
 use frame::kinds::REPORT_BYTES;
 use frame::report::report_line;
-use refusal::Refusal;
+use refusal::{Reason, Refusal};
 
 // The verdict on a stream, or 1 for one of more bytes.
-fn judge(stream: &[u8], bytes: usize, store: &mut [u16]) -> Checked
-    ensures replies { checked_of result ≡ counted_of (model.judge bytes (length store.old) stream.now) }
+fn judge(stream: &[u8], bytes: usize, store: &mut [u16]) -> Result<Accepted, Refusal>
+    ensures replies { answer_of result ≡ counted_of (model.judge bytes (length store.old) stream.now) }
     ensures leaves { store.new ≡ model.store_after (length store.old) (model.judge bytes (length store.old) stream.now) }
 {
     if bytes < stream.len() {
-        clear_numbers(store, 0);
-        return Checked::Refused(Refusal {
-            number: Refusal::STREAM,
-            line: 0,
-        });
+        clear(store, 0);
+        return Err(Reason::Stream.at(0));
     }
     check(stream, store)
 }
 
 // The report's line of every verdict that comes to these counts or to this refusal.
-fn line_of(checked: Checked) -> [u8; REPORT_BYTES]
+fn line_of(checked: Result<Accepted, Refusal>) -> [u8; REPORT_BYTES]
     requires { Fits checked }
-    ensures { (a : Answer State) → checked_of checked ≡ counted_of a → result ≡ line_of (model.report_of a) }
+    ensures { (a : Answer State) → answer_of checked ≡ counted_of a → result ≡ line_of (model.report_of a) }
 {
     match checked {
-        Checked::Accepted { steps, clauses } => report_line(0, 0, steps as u16, clauses as u16),
-        Checked::Refused(refusal) => report_line(refusal.number, refusal.line, 0, 0),
+        Ok(accepted) => report_line(0, 0, accepted.steps as u16, accepted.clauses as u16),
+        Err(refusal) => report_line(refusal.reason.number(), refusal.line, 0, 0),
     }
 }
 

@@ -5,9 +5,9 @@ use mathlib.Core.Bool.{Bool, true, false, ◌&&◌, and-false}
 use mathlib.Core.List.{List, [], ◌∷◌, ◌++◌}
 use native.Mathlib.Omega.{arith}
 use lib.ListN.{length, length-append}
-use lib.Dec.{eqb, leb, ltb}
+use lib.Dec.{leb, ltb}
 use lib.Seq.{sets}
-use borrow.Author.Tests.{ltb-true, leb-true, lt-ltb, le-ltb, le-leb, lt-leb, ne_eqb}
+use borrow.Author.Tests.{ltb-true, leb-true, lt-ltb, le-ltb, le-leb, lt-leb}
 use Rattle.model.specs.Limits.{highest_variable, clause_width}
 use Rattle.model.specs.Answers.{Answer, guard, bind}
 use Rattle.model.specs.Answers.Answer.{ok, refused}
@@ -17,11 +17,8 @@ use Rattle.model.specs.Steps.{State, clause, is_clause, can_resolve, added, reso
 use Rattle.model.specs.Steps.Step.{resolve}
 use Rattle.model.specs.Checker.{stored}
 use Rattle.laws.specs.Bools.{both}
-use Rattle.clause.specs.declared.resolution.Resolved.{Resolved}
 use Rattle.laws.specs.Answers.{ok_injective, guard_ok}
-use Rattle.clause.specs.declared.resolution.Outcome.{Outcome}
-use Rattle.clause.specs.declared.resolution.Outcome.TheVariants.{Joined, Missing, TooLong}
-use Rattle.clause.specs.Sets.{Rising, Proper, literals_of, fitted, resolve_of, outcome_of, Answers}
+use Rattle.clause.specs.Sets.{Rising, Proper, fitted, resolve_of}
 use Rattle.clause.proofs.SetLaws.{rising_resolvent}
 use Rattle.frame.specs.declared.Op.{Op}
 use Rattle.frame.specs.declared.Op.TheVariants.{And, Xor}
@@ -123,39 +120,37 @@ pub joins : (room line : ℕ) (s : State) (r : Clause) → length s.clauses < ro
 unfolding added guard joined
 joins room line s r h = rw (le-leb (length s.clauses + 1) room (omega arith))
 
-length_empty : (r : Clause) → is_empty r ≡ eqb (length r) 0
-length_empty [] = refl
-length_empty (l ∷ r) = sym (ne_eqb (suc (length r)) 0 (λ e. absurd (omega (arith, e))))
-
-pub joined_tracks : {store : List ℕ} {p : Progress} {s : State} (r : Clause) (len at : ℕ) → Tracks store p s → Proper r → len ≡ length r
+pub joined_tracks : {store : List ℕ} {p : Progress} {s : State} (r : Clause) (at : ℕ) → Tracks store p s → Proper r
     → at ≡ clause_width * p.clauses → clause_width * p.clauses + clause_width ≤ length store
-    → Tracks (sets store at (stored r)) (record { clauses = p.clauses + 1; next = p.next; steps = p.steps + 1; empty = eqb len 0 }) (joined r s)
+    → Tracks (sets store at (stored r)) (record { clauses = p.clauses + 1; next = p.next; steps = p.steps + 1; empty = is_empty r }) (joined r s)
 unfolding joined
-joined_tracks {store} {p} {s} r len at t h e is room =
+joined_tracks {store} {p} {s} r at t h is room =
     let n : at ≡ clause_width * length s.clauses = omega (arith, t.clauses) in
     record {
       held = rw n (held_more store s.clauses r t.held h (omega (arith, t.clauses)));
       clauses = length-append s.clauses (r ∷ []) ∙ omega (arith, t.clauses);
       next = t.next;
       steps = omega (arith, t.steps);
-      empty = rw e (length_empty r);
+      empty = refl;
     }
 
 -- what the test tells
 pub number : (n k : ℕ) → ltb 0 k && leb k n ≡ true → (1 ≤ k) × (k ≤ n)
 number n k h = let t = both (ltb 0 k) (leb k n) h in (ltb-true 0 k t.0, leb-true k n t.1)
 
+-- a clause that is there
+pub there : {store : List ℕ} {p : Progress} {s : State} (k : ℕ) → Tracks store p s → ltb 0 k && leb k p.clauses ≡ true → k - 1 < length s.clauses
+there {store} {p} {s} k t h = omega (arith, number p.clauses k h, t.clauses)
+
 -- a clause that the store has rises
 pub rising_at : {store : List ℕ} {p : Progress} {s : State} (k : ℕ) → Tracks store p s → ltb 0 k && leb k p.clauses ≡ true → Rising (clause s.clauses k)
 rising_at {store} {p} {s} k t h = (proper_at s.clauses (k - 1) t.held.proper (omega (arith, number p.clauses k h, t.clauses))).rising
 
--- a resolvent that was built rises
-pub resolvent_rising : (v : ℕ) (first second : Clause) (r : Resolved) → Rising first → Rising second → Answers r (resolve_of v first second)
-    → r.outcome ≡ Joined → Rising (literals_of r.clause)
+-- a resolvent rises
+pub resolvent_rising : (v : ℕ) (first second r : Clause) (line : ℕ) → Rising first → Rising second → ok r ≡ resolve_of v first second line → Rising r
 unfolding resolve_of fitted
-resolvent_rising v first second r hf hs h e =
-    let m = ap (λ (o : Outcome). outcome_of o (literals_of r.clause) 0) e in
-    let g10 = guard_ok _ _ _ _ (sym (h.same 0) ∙ m) in
+resolvent_rising v first second r line hf hs h =
+    let g10 = guard_ok _ _ _ _ (sym h) in
     let g11 = guard_ok _ _ _ _ g10.1 in
     subst Rising (ok_injective g11.1) (rising_resolvent v first second hf hs)
 
@@ -185,22 +180,7 @@ module _ (room line : ℕ) (s : State) (a b v : ℕ) where
       cases true false = refl
       cases false y = refl
 
-  -- what the code's step on the two clauses tells of the definition's
-  module _ (ha : is_clause s.clauses a ≡ true) (hb : is_clause s.clauses b ≡ true) (r : Resolved)
-      (h : Answers r (resolve_of v (clause s.clauses a) (clause s.clauses b))) where
-    by_outcome : (o : Outcome) → r.outcome ≡ o
-        → step room line s (resolve a b v) ≡ bind (outcome_of o (literals_of r.clause) line) (λ c. added room line s (c ∷ []) s.next (is_empty c))
-    by_outcome o e =
-        by_resolve ha hb
-        ∙ ap (λ (x : Answer Clause). bind x (λ c. added room line s (c ∷ []) s.next (is_empty c)))
-        (sym (h.same line) ∙ ap (λ (x : Outcome). outcome_of x (literals_of r.clause) line) e)
-
-    pub pivot_missing : r.outcome ≡ Missing → step room line s (resolve a b v) ≡ refused 10 line
-    pivot_missing e = by_outcome Missing e
-
-    pub too_wide : r.outcome ≡ TooLong → step room line s (resolve a b v) ≡ refused 11 line
-    too_wide e = by_outcome TooLong e
-
-    pub resolvent_added : r.outcome ≡ Joined
-        → step room line s (resolve a b v) ≡ added room line s (literals_of r.clause ∷ []) s.next (is_empty (literals_of r.clause))
-    resolvent_added e = by_outcome Joined e
+  -- by what the step on the two clauses comes to
+  pub step_on : is_clause s.clauses a ≡ true → is_clause s.clauses b ≡ true → (o : Answer Clause) → o ≡ resolve_of v (clause s.clauses a) (clause s.clauses b) line
+      → step room line s (resolve a b v) ≡ bind o (λ r. added room line s (r ∷ []) s.next (is_empty r))
+  step_on ha hb o e = by_resolve ha hb ∙ ap (λ (x : Answer Clause). bind x (λ r. added room line s (r ∷ []) s.next (is_empty r))) (sym e)

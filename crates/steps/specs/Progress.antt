@@ -1,8 +1,8 @@
 -- The store while a proof is replayed, the state of the definitions that it stands for, and what a step's answer says of that state.
-use Rattle.std.specs.Prelude.{ℕ, ◌+◌, ◌*◌, ◌≤◌, ◌<◌, ◌≡◌, List, [], ◌∷◌, length, take}
+use Rattle.std.specs.Prelude.{ℕ, ◌+◌, ◌*◌, ◌≤◌, ◌<◌, ◌≡◌, Bool, List, [], ◌∷◌, length, take, Result, Ok, Err}
 use Rattle.model.specs.Limits.{clause_width, most_clauses, highest_variable}
 use Rattle.model.specs.Answers.{Answer}
-use Rattle.model.specs.Answers.Answer.{ok, refused}
+use Rattle.model.specs.Answers.Answer.{ok}
 use Rattle.model.specs.Clauses.{Clause, and_clauses, xor_clauses}
 use Rattle.model.specs.Steps.{State, Step}
 use Rattle.model.specs.Steps.Step.{extend}
@@ -12,11 +12,10 @@ use Rattle.frame.specs.declared.Op.TheVariants.{And, Xor}
 use Rattle.frame.specs.Frames.{op_of}
 use Rattle.literal.specs.declared.Literal.{Literal}
 use Rattle.clause.specs.Sets.{Proper}
-use Rattle.steps.specs.declared.Added.{Added}
-use Rattle.steps.specs.declared.Added.TheVariants.{Clause as Kept, Refused as NotKept}
+use Rattle.refusal.specs.declared.Reason.{Reason}
+use Rattle.refusal.specs.declared.Refusal.{Refusal}
+use Rattle.refusal.specs.Answers.{refused_by}
 use Rattle.steps.specs.declared.Progress.{Progress}
-use Rattle.steps.specs.declared.Stepped.{Stepped}
-use Rattle.steps.specs.declared.Stepped.TheVariants.{Done, Refused}
 
 -- ---- gates
 
@@ -69,11 +68,11 @@ pub record Within (store : List ℕ) (p : Progress) (room : ℕ) : Type 0 where
   pub next : p.next ≤ highest_variable + 1
 
 -- what an answer of the code says of the definition's: the next state, which the store stands for then, or the same refusal
-abbrev pub Says : ℕ → Answer State → List ℕ → Stepped → Type 0
-Says room a store (Done q) = (s : State) × (a ≡ ok s) × Tracks store q s × Within store q room
-Says room a store (Refused r) = a ≡ refused r.number r.line
+abbrev pub Says : ℕ → Answer State → List ℕ → Result Progress Refusal → Type 0
+Says room a store (Ok q) = (s : State) × (a ≡ ok s) × Tracks store q s × Within store q room
+Says room a store (Err r) = a ≡ refused_by r
 
 -- the answer to a resolve at this line, by what it comes to
-abbrev pub stepped_of : Progress → ℕ → Added → Stepped
-stepped_of p line (Kept empty) = Done (record { empty = empty; next = p.next; clauses = p.clauses + 1; steps = p.steps + 1 })
-stepped_of p line (NotKept number) = Refused (record { number = number; line = line })
+abbrev pub stepped_of : Progress → ℕ → Result Bool Reason → Result Progress Refusal
+stepped_of p line (Ok empty) = Ok (record { empty = empty; next = p.next; clauses = p.clauses + 1; steps = p.steps + 1 })
+stepped_of p line (Err reason) = Err (record { reason = reason; line = line })

@@ -1,10 +1,9 @@
 // Standard input, read to its end, how long a program's stream may be, and its answer on standard output.
 #![tactic(auto)]
 
-ghost use Rattle.std.specs.Prelude.{◌≡◌, length};
-ghost use Rattle.streams.specs.Streams.{Within};
+ghost use Rattle.std.specs.Prelude.{◌≡◌, ◌≤◌, length, IfOk};
 
-use std::io::{Read, Write};
+use std::io::{self, Read, Write};
 
 // The most bytes that a program takes (document 01, refusal 1).
 pub const STREAM_BYTES: usize = 65536;
@@ -16,31 +15,21 @@ pub fn room() -> [u8; 65537]
     [0; 65537]
 }
 
-// How the reading of a stream ended.
-#[derive(Clone, Copy)]
-pub enum Stream {
-    // At its end or with the buffer full, after so many bytes.
-    Read(usize),
-    // At an error, which the system may tell only once.
-    Failed,
-}
-
-// Reads standard input to the start of the buffer, until the stream ends or the buffer is full.
-pub fn read_stream(rt: &HostRuntime, buf: &mut [u8]) -> Stream
-    ensures { Within result buf.new }
+// Reads standard input to the start of the buffer, until the stream ends or the buffer is full, after so many bytes; or the error, which the
+// system may tell only once.
+pub fn read_stream(rt: &HostRuntime, buf: &mut [u8]) -> io::Result<usize>
+    ensures { IfOk result (λ n. n ≤ length buf.new) }
 {
     let mut input = rt.stdin();
     let mut done = 0;
     while done < buf.len() {
-        let Ok(more) = input.read(&mut buf[done..]) else {
-            return Stream::Failed;
-        };
+        let more = input.read(&mut buf[done..])?;
         if more == 0 {
-            return Stream::Read(done);
+            return Ok(done);
         }
         done += more;
     }
-    Stream::Read(done)
+    Ok(done)
 }
 
 // Writes a program's answer, and where that fails its message on standard error.

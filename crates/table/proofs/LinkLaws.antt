@@ -4,7 +4,7 @@ use mathlib.Core.Path.{◌≡◌, refl, sym, ap, ◌∙◌}
 use mathlib.Core.Bool.{Bool, true, false}
 use mathlib.Core.List.{List, [], ◌∷◌, ◌++◌}
 use native.Mathlib.Omega.{arith}
-use lib.ListN.{length, get_or, set, length-append, get_or-append}
+use lib.ListN.{length, get_or, length-append, get_or-append}
 use lib.Seq.{sets, length-sets, get_or_at}
 use lib.Dec.{ltb}
 use borrow.Author.Tests.{ltb-true, ltb-false}
@@ -25,50 +25,30 @@ zeros_behind [] n i = no_number n i
 zeros_behind (x ∷ ns) n zero = refl
 zeros_behind (x ∷ ns) n (suc i) = zeros_behind ns n i
 
--- four numbers one by one
-abbrev pub four : List ℕ → List ℕ
-four ns = get_or ns 0 0 ∷ get_or ns 1 0 ∷ get_or ns 2 0 ∷ get_or ns 3 0 ∷ []
-
-four_at : (ns : List ℕ) (i : ℕ) → i < link_width → get_or (four ns) i 0 ≡ get_or ns i 0
-four_at ns zero h = refl
-four_at ns (suc zero) h = refl
-four_at ns (suc (suc zero)) h = refl
-four_at ns (suc (suc (suc zero))) h = refl
-four_at ns (suc (suc (suc (suc i)))) h = absurd (omega arith)
-
--- as the code stores them
-pub four_stored : (l : List ℕ) (p : ℕ) (ns : List ℕ) → set (set (set (set l p (get_or ns 0 0)) (p + 1) (get_or ns 1 0)) (p + 2) (get_or ns 2 0)) (p + 3) (get_or ns 3 0) ≡ sets l p (four ns)
-four_stored l p ns =
-    let one : p + 1 ≡ suc p = omega arith in
-    let two : p + 2 ≡ suc (suc p) = omega arith in
-    let three : p + 3 ≡ suc (suc (suc p)) = omega arith in
-    rw (one, two, three)
-
-module _ (work : List ℕ) (start v : ℕ) (numbers : List ℕ) (r : start + link_width * v + link_width ≤ length work) where
+module _ (work : List ℕ) (start v : ℕ) (numbers : List ℕ) (four : length numbers ≡ link_width) (r : start + link_width * v + link_width ≤ length work) where
   pub kept : (links : List (List ℕ)) (ns : List ℕ) → Keeps work start links → length links ≡ v → numbers ≡ filled link_width ns
-      → Keeps (sets work (start + link_width * v) (four numbers)) start (links ++ (ns ∷ []))
+      → Keeps (sets work (start + link_width * v) numbers) start (links ++ (ns ∷ []))
   kept links ns k n e =
       let l : length (links ++ (ns ∷ [])) ≡ v + 1 = rw (length-append, n) in
       record { room = rw (l, length-sets) (omega arith); number = λ u i a b. at u i (omega arith) b (ltb u v) refl }
     where
       at : (u i : ℕ) → u < v + 1 → i < link_width → (q : Bool) → ltb u v ≡ q
-          → get_or (sets work (start + link_width * v) (four numbers)) (start + link_width * u + i) 0 ≡ get_or (get_or (links ++ (ns ∷ [])) u []) i 0
+          → get_or (sets work (start + link_width * v) numbers) (start + link_width * u + i) 0 ≡ get_or (get_or (links ++ (ns ∷ [])) u []) i 0
       at u i a b true q =
           let z : u < v = ltb-true u v q in
-          stays_before work (start + link_width * v) (four numbers) (start + link_width * u + i) (omega arith)
+          stays_before work (start + link_width * v) numbers (start + link_width * u + i) (omega arith)
           ∙ k.number u i (omega arith) b
           ∙ ap (λ (x : List ℕ). get_or x i 0) (sym (get_or-append links (ns ∷ []) [] u (omega arith)))
       at u i a b false q =
           let z : u ≡ v = omega (arith, ltb-false u v q) in
           rw (z, get_or_at links ns [] [] v n)
-          (stored_at work (start + link_width * v) (four numbers) i (omega arith) b
-          ∙ four_at numbers i b
+          (stored_at work (start + link_width * v) numbers i (omega arith) (omega arith)
           ∙ ap (λ (x : List ℕ). get_or x i 0) e
           ∙ zeros_behind ns (link_width - length ns) i)
 
-  pub rows_stay : (t : List model.Entry) → HoldsTable work t → row_width * length t ≤ start → HoldsTable (sets work (start + link_width * v) (four numbers)) t
+  pub rows_stay : (t : List model.Entry) → HoldsTable work t → row_width * length t ≤ start → HoldsTable (sets work (start + link_width * v) numbers) t
   rows_stay t h s =
       record {
         room = rw length-sets h.room;
-        number = λ u i a b. stays_before work (start + link_width * v) (four numbers) (row_width * u + i) (omega arith) ∙ h.number u i a b;
+        number = λ u i a b. stays_before work (start + link_width * v) numbers (row_width * u + i) (omega arith) ∙ h.number u i a b;
       }

@@ -1,9 +1,9 @@
 -- Numbers stored one behind the other: what stands where they were put, and that all else stays.
 use Prim.Native.Nat.{ℕ, zero, suc, ◌+◌, ◌<◌, ◌≤◌}
-use mathlib.Core.Path.{◌≡◌, refl, ◌∙◌}
+use mathlib.Core.Path.{◌≡◌, refl, sym, ◌∙◌}
 use mathlib.Core.List.{List, [], ◌∷◌}
 use native.Mathlib.Omega.{arith}
-use lib.ListN.{length, get_or, set, length-set}
+use lib.ListN.{length, get_or, drop, set, length-set, drop_of_length-le}
 use lib.Seq.{sets, get_or-set_same, get_or-set_other}
 
 pub stays_before : (l : List ℕ) (p : ℕ) (xs : List ℕ) (j : ℕ) → j < p → get_or (sets l p xs) j 0 ≡ get_or l j 0
@@ -22,3 +22,7 @@ stored_at l p (x ∷ xs) zero r h =
 stored_at l p (x ∷ xs) (suc i) r h =
     let e : p + suc i ≡ suc p + i = omega arith in
     rw e (stored_at (set l p x) (suc p) xs i (rw length-set (omega arith)) (omega arith))
+
+-- nothing is left to put
+pub put_all : (l old xs : List ℕ) (p i : ℕ) → length xs ≤ i → sets l (p + i) (drop i xs) ≡ sets old p xs → sets old p xs ≡ l
+put_all l old xs p i h e = sym (rw (drop_of_length-le xs {i = i} h) at e)

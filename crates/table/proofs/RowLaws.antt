@@ -1,13 +1,13 @@
 -- Laws of the table: a row more, what a row's numbers are, and the search.
 use Prim.Native.Nat.{ℕ, suc, ◌+◌, ◌-◌, ◌*◌, ◌%◌, ◌<◌, ◌≤◌}
 use mathlib.Core.Path.{◌≡◌, refl, sym, ap, ◌∙◌}
-use mathlib.Core.Bool.{Bool, true, false, and-false, and-true}
+use mathlib.Core.Bool.{Bool, true, false, ◌&&◌, and_comm, cond}
 use mathlib.Core.List.{List, [], ◌∷◌, ◌++◌}
 use native.Mathlib.Omega.{arith}
-use lib.ListN.{length, get_or, set, length-append, get_or-append}
+use lib.ListN.{length, get_or, length-append, get_or-append}
 use lib.Seq.{sets, length-sets, get_or_at}
 use lib.Dec.{eqb, ltb}
-use borrow.Author.Tests.{ltb-true, ltb-false, eqb-true, eqb-false, ne_eqb, eq-eqb}
+use borrow.Author.Tests.{ltb-true, ltb-false}
 use Rattle.model.specs.Nets.{net_of, odd}
 use Rattle.model.specs.Clauses.{neg}
 use Rattle.fold_laws.specs.Signs.{signed}
@@ -16,15 +16,6 @@ use Rattle.table.specs.Rows.{row_width, row_numbers, row, HoldsTable}
 use Rattle.table.proofs.PlaceLaws.{stays_before, stored_at}
 
 -- ---- a row more
-
--- as the code stores it
-pub row_stored : (l : List ℕ) (p a b c d e : ℕ) → set (set (set (set (set l p a) (p + 1) b) (p + 2) c) (p + 3) d) (p + 4) e ≡ sets l p (a ∷ b ∷ c ∷ d ∷ e ∷ [])
-row_stored l p a b c d e =
-    let one : p + 1 ≡ suc p = omega arith in
-    let two : p + 2 ≡ suc (suc p) = omega arith in
-    let three : p + 3 ≡ suc (suc (suc p)) = omega arith in
-    let four : p + 4 ≡ suc (suc (suc (suc p))) = omega arith in
-    rw (one, two, three, four)
 
 pub entered : (work : List ℕ) (t : List model.Entry) (e : model.Entry) (v : ℕ) → row_width * v + row_width ≤ length work → HoldsTable work t → length t ≡ v
     → HoldsTable (sets work (row_width * v) (row e)) (t ++ (e ∷ []))
@@ -62,25 +53,14 @@ module _ {work : List ℕ} {t : List model.Entry} (h : HoldsTable work t) {u : �
   pub kb_at : get_or work (row_width * u + 3) 0 ≡ (model.at t u).kb
   kb_at = h.number u 3 n (omega arith)
 
-  pub core_at : get_or work (row_width * u + 4) 0 ≡ (model.at t u).core
-  core_at = h.number u 4 n (omega arith)
-
 -- ---- a net's kind and key
 
-module _ {work : List ℕ} {t : List model.Entry} (h : HoldsTable work t) {u : ℕ} (n : u < length t) (k : Bool) (a b : ℕ) where
-  pub other_first : (get_or work (row_width * u + 2) 0 ≡ a → ⊥) → false ≡ model.fits k a b (model.at t u)
-  unfolding model.fits
-  other_first d = rw (ne_eqb (model.at t u).ka a (λ e. d (ka_at h n ∙ e)), and-false)
-
-  pub other_second : (get_or work (row_width * u + 3) 0 ≡ b → ⊥) → false ≡ model.fits k a b (model.at t u)
-  unfolding model.fits
-  other_second d = rw (ne_eqb (model.at t u).kb b (λ e. d (kb_at h n ∙ e)), and-false, and-false)
-
-  pub same_key : get_or work (row_width * u + 2) 0 ≡ a → get_or work (row_width * u + 3) 0 ≡ b → (kind : ℕ) → kind ≡ model.kind_of k
-      → eqb (get_or work (row_width * u + 1) 0) kind ≡ model.fits k a b (model.at t u)
-  unfolding model.fits
-  same_key p q kind e =
-      rw (kind_at h n, e, eq-eqb (model.at t u).ka a (sym (ka_at h n) ∙ p), eq-eqb (model.at t u).kb b (sym (kb_at h n) ∙ q), and-true)
+pub fits_by : {work : List ℕ} {t : List model.Entry} → HoldsTable work t → {u : ℕ} → u < length t → (k : Bool) (a b kind : ℕ) → kind ≡ model.kind_of k
+    → (eqb (get_or work (row_width * u + 2) 0) a && eqb (get_or work (row_width * u + 3) 0) b) && eqb (get_or work (row_width * u + 1) 0) kind
+    ≡ model.fits k a b (model.at t u)
+unfolding model.fits
+fits_by {work} {t} h {u} n k a b kind e =
+    rw (ka_at h n, kb_at h n, kind_at h n, e) (and_comm (eqb (model.at t u).ka a && eqb (model.at t u).kb b) (eqb (model.at t u).kind (model.kind_of k)))
 
 -- ---- the search, as far as net u
 
@@ -99,12 +79,12 @@ module _ (k : Bool) (a b : ℕ) (t : List model.Entry) (v u : ℕ) where
 
 -- ---- representatives
 
-module _ {work : List ℕ} {t : List model.Entry} (h : HoldsTable work t) (l : ℕ) (n : net_of l < length t) where
-  -- the row's number with the literal's sign
-  pub signed_rep : (sign r : ℕ) → sign ≡ l % 2 → (sign ≡ 0 → r ≡ get_or work (row_width * net_of l) 0) × (sign ≡ 1 → r ≡ neg (get_or work (row_width * net_of l) 0)) → r ≡ model.rep_of t l
-  unfolding model.rep_of
-  signed_rep sign r e f = go (odd l) refl
-    where
-      go : (b : Bool) → odd l ≡ b → r ≡ signed b (model.at t (net_of l)).rep
-      go true o = let one : l % 2 ≡ 1 = eqb-true (l % 2) 1 o in f.1 (e ∙ one) ∙ ap neg (rep_at h n)
-      go false o = let other = eqb-false (l % 2) 1 o in f.0 (omega arith) ∙ rep_at h n
+signed_by : (b : Bool) (r : ℕ) → cond b (neg r) r ≡ signed b r
+signed_by true r = refl
+signed_by false r = refl
+
+-- the row's number with the literal's sign
+pub rep_read : {work : List ℕ} {t : List model.Entry} → HoldsTable work t → (l : ℕ) → net_of l < length t → (r : ℕ) → r ≡ get_or work (row_width * net_of l) 0
+    → cond (eqb (l % 2) 1) (neg r) r ≡ model.rep_of t l
+unfolding model.rep_of
+rep_read h l n r e = signed_by (odd l) r ∙ ap (signed (odd l)) (e ∙ rep_at h n)

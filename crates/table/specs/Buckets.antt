@@ -1,6 +1,6 @@
 -- The index of the table by kind and key, as the working numbers have it: buckets behind the rows and the numbers of clauses, and of each
 -- bucket a chain of its nets, from the latest down, by a number of their rows.
-use Rattle.std.specs.Prelude.{ℕ, zero, suc, ◌+◌, ◌-◌, ◌*◌, ◌/◌, ◌%◌, ◌<◌, ◌≤◌, ◌≡◌, cond, List, length, get_or, eqb}
+use Rattle.std.specs.Prelude.{ℕ, zero, suc, ◌+◌, ◌-◌, ◌*◌, ◌/◌, ◌%◌, ◌<◌, ◌≤◌, ◌≡◌, cond, List, length, get_or, eqb, ltb, Option, Some, None}
 use Rattle.model.specs.Limits.{highest_variable, numbers_per_net}
 use Rattle.fold_laws.specs.Table as model
 use Rattle.table.specs.Rows.{row_width, row_numbers, HoldsTable}
@@ -33,6 +33,15 @@ bucket_at nets t u = bucket_of nets (model.at t u).kind (model.at t u).ka (model
 unfoldable pub latest : ℕ → List model.Entry → ℕ → ℕ → ℕ
 latest nets t h zero = 0
 latest nets t h (suc n) = cond (eqb (bucket_at nets t n) h) (suc n) (latest nets t h n)
+
+-- what is stored of a net: one more than it, or 0 for none
+abbrev pub after : Option ℕ → ℕ
+after None = 0
+after (Some u) = suc u
+
+-- the net, if it is one of so many
+abbrev pub below : ℕ → ℕ → Option ℕ
+below v u = cond (ltb u v) (Some u) None
 
 -- the working numbers have the rows of t and their index
 pub record Indexed (work : List ℕ) (nets : ℕ) (t : List model.Entry) : Type 0 where

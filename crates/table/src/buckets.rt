@@ -5,11 +5,11 @@ ghost use Rattle.std.specs.Prelude.{◌≡◌, Bool, List, [], ◌∷◌, ◌++�
 ghost use Rattle.model.specs.Limits.{highest_variable, numbers_per_net};
 ghost use Rattle.fold_laws.specs.Table as model;
 ghost use Rattle.table.specs.Rows.{entry_of};
-ghost use Rattle.table.specs.Buckets.{bucket_width, bucket_of, Indexed, Among};
+ghost use Rattle.table.specs.Buckets.{bucket_width, bucket_of, after, below, Indexed, Among};
 
 use crate::links::LINKS;
 use crate::rows::{Entry, ROW, enter, fits};
-use clearing::clear_numbers;
+use clearing::clear;
 use literal::Literal;
 
 const BUCKETS: usize = 4;
@@ -33,16 +33,12 @@ fn bucket(nets: usize, kind: u16, a: Literal, b: Literal) -> usize
     1 + mixed * (BUCKETS * nets - 1) / 4294967296
 }
 
-// The number at a place, or 0 where it is too high.
-fn at_most(work: &[u16], at: usize, most: usize) -> usize
+// The net that the number at a place stands for, if it is one of so many: the number is one more than the net, and 0 is none.
+fn net_at(work: &[u16], at: usize, nets: usize) -> Option<usize>
     requires { at < length work.now }
-    ensures { (result ≤ most) × (get_or work.now at 0 ≤ most → result ≡ get_or work.now at 0) }
+    ensures { (after result ≤ nets) × (get_or work.now at 0 ≤ nets → after result ≡ get_or work.now at 0) }
 {
-    let n = work[at] as usize;
-    if most < n {
-        return 0;
-    }
-    n
+    (work[at] as usize).checked_sub(1).filter(|u| *u < nets)
 }
 
 // Buckets with no nets: zeros from the first one on.
@@ -50,25 +46,23 @@ pub fn empty(work: &mut [u16], nets: usize)
     requires { numbers_per_net * nets ≤ length work.old }
     ensures { Indexed work.new nets [] }
 {
-    clear_numbers(work, (ROW + LINKS) * nets);
+    clear(work, (ROW + LINKS) * nets);
 }
 
-// The least net below v with this kind and key, or v. It is the last on the chain that fits; that keys are unique is not used.
-pub fn find(work: &[u16], nets: usize, v: usize, kind: u16, a: Literal, b: Literal) -> usize
+// The least net below v with this kind and key. It is the last on the chain that fits; that keys are unique is not used.
+pub fn find(work: &[u16], nets: usize, v: usize, kind: u16, a: Literal, b: Literal) -> Option<usize>
     requires { Among (length work.now) nets v }
-    ensures { (t : List model.Entry) (k : Bool) → Indexed work.now nets t → length t ≡ v → kind ≡ model.kind_of k → result ≡ model.find k a.code b.code t v 0 }
+    ensures { (t : List model.Entry) (k : Bool) → Indexed work.now nets t → length t ≡ v → kind ≡ model.kind_of k → result ≡ below v (model.find k a.code b.code t v 0) }
 {
-    let head = (ROW + LINKS) * nets + bucket(nets, kind, a, b);
-    let mut next = at_most(work, head, v);
-    let mut found = v;
-    while 0 < next {
-        let u = next - 1;
+    let mut next = net_at(work, (ROW + LINKS) * nets + bucket(nets, kind, a, b), v);
+    let mut found = v; // where none is: an option here costs a twentieth of the time of an entry
+    while let Some(u) = next {
         if fits(work, u, kind, a, b) {
             found = u;
         }
-        next = at_most(work, ROW * u + NEXT, u);
+        next = net_at(work, ROW * u + NEXT, u);
     }
-    found
+    (found < v).then_some(found)
 }
 
 // The entry of net v, behind those of the nets before it, and the net at the head of its chain.

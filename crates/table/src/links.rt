@@ -16,11 +16,7 @@ pub fn number_at(work: &[u16], start: usize, u: usize, i: usize) -> u16
     requires { (start ≤ length work.now) × (u < 65536) × (i < link_width) }
     ensures { (links : List (List ℕ)) → Keeps work.now start links → u < length links → result ≡ get_or (get_or links u []) i 0 }
 {
-    let at = start + LINKS * u + i;
-    if work.len() <= at {
-        return 0;
-    }
-    work[at]
+    work.get(start + LINKS * u + i).copied().unwrap_or(0)
 }
 
 // The clause that links a literal to its representative.
@@ -32,14 +28,14 @@ pub fn link(work: &[u16], start: usize, l: Literal) -> u16
 }
 
 // The numbers of net v, behind those of the nets before it. Rows in front stay.
-pub fn keep(work: &mut [u16], start: usize, v: usize, numbers: [u16; 4])
+pub fn keep(work: &mut [u16], start: usize, v: usize, numbers: [u16; LINKS])
     requires { start + link_width * v + link_width ≤ length work.old }
     ensures keeps { (links : List (List ℕ)) (ns : List ℕ) → Keeps work.old start links → length links ≡ v → numbers ≡ filled link_width ns → Keeps work.new start (links ++ (ns ∷ [])) }
     ensures stays { (t : List model.Entry) → HoldsTable work.old t → row_width * length t ≤ start → HoldsTable work.new t }
 {
     let at = start + LINKS * v;
-    work[at] = numbers[0];
-    work[at + 1] = numbers[1];
-    work[at + 2] = numbers[2];
-    work[at + 3] = numbers[3];
+    // not `copy_from_slice`, which puts the numbers together in memory first
+    for i in 0..LINKS {
+        work[at + i] = numbers[i];
+    }
 }

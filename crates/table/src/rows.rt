@@ -28,13 +28,12 @@ pub struct Entry {
 pub fn keyless(rep: Literal, kind: u16) -> Entry
     ensures { entry_of result ≡ record { rep = rep.code; kind = kind; ka = 0; kb = 0; core = 0 } }
 {
-    let none = Literal::of(0);
     Entry {
         rep,
         kind,
-        ka: none,
-        kb: none,
-        core: none,
+        ka: Literal::FALSE,
+        kb: Literal::FALSE,
+        core: Literal::FALSE,
     }
 }
 
@@ -44,23 +43,21 @@ pub fn enter(work: &mut [u16], v: usize, e: Entry)
     ensures { work.new ≡ sets work.old (row_width * v) (row (entry_of e)) }
 {
     let at = ROW * v;
-    work[at] = e.rep.code;
-    work[at + 1] = e.kind;
-    work[at + 2] = e.ka.code;
-    work[at + 3] = e.kb.code;
-    work[at + 4] = e.core.code;
+    let row = [e.rep.code, e.kind, e.ka.code, e.kb.code, e.core.code];
+    // not `copy_from_slice`, which puts the row together in memory first: a third of the time of an entry
+    for i in 0..row.len() {
+        work[at + i] = row[i];
+    }
 }
 
 // The representative of a literal.
 pub fn representative(work: &[u16], l: Literal) -> Literal
     ensures { (t : List model.Entry) → HoldsTable work.now t → net_of l.code < length t → result.code ≡ model.rep_of t l.code }
 {
-    let at = ROW * (l.variable() as usize);
-    if work.len() <= at {
-        return Literal::of(0);
+    match work.get(ROW * (l.variable() as usize)) {
+        Some(rep) => Literal::from(*rep).complement_if(l.sign()),
+        None => Literal::FALSE,
     }
-    let rep = Literal::of(work[at]);
-    rep.signed(l.sign())
 }
 
 // The literal over net u that is the AND or XOR of its key.
@@ -68,7 +65,7 @@ pub fn core_of(work: &[u16], u: usize) -> Literal
     requires { row_width * u + row_width ≤ length work.now }
     ensures { (t : List model.Entry) → HoldsTable work.now t → u < length t → result.code ≡ (model.at t u).core }
 {
-    Literal::of(work[ROW * u + 4])
+    Literal::from(work[ROW * u + 4])
 }
 
 // Whether net u has this kind and key.
@@ -77,11 +74,5 @@ pub fn fits(work: &[u16], u: usize, kind: u16, a: Literal, b: Literal) -> bool
     ensures { (t : List model.Entry) (k : Bool) → HoldsTable work.now t → u < length t → kind ≡ model.kind_of k → result ≡ model.fits k a.code b.code (model.at t u) }
 {
     let at = ROW * u;
-    if work[at + 2] != a.code {
-        return false;
-    }
-    if work[at + 3] != b.code {
-        return false;
-    }
-    work[at + 1] == kind
+    work[at + 2] == a.code && work[at + 3] == b.code && work[at + 1] == kind
 }

@@ -7,6 +7,7 @@ use mathlib.Core.List.{List, ◌++◌, map, append_assoc}
 use native.Mathlib.Omega.{arith}
 use native.Mathlib.Numerals.{add-one}
 use native.Mathlib.Nat.{pow-suc, pow-le-pow_right}
+use mir.Val.{bool_byte}
 use lib.ListN.{length, drop, get_or, set, length-map, get_or-map, drop_of_length-le}
 use lib.Seq.{drop-cons}
 use lib.Bits.{bit_and, bit_xor}
@@ -27,6 +28,11 @@ pub xor_bits : (x y : Bool) → bit_xor (bit x) (bit y) ≡ bit (xorb x y)
 xor_bits true true = refl
 xor_bits true false = refl
 xor_bits false y = refl
+
+-- a sign as a byte
+pub sign_bit : (b : Bool) → bool_byte b ≡ bit b
+sign_bit true = refl
+sign_bit false = refl
 
 -- a literal's value, by its net's value and its sign
 pub literal_bits : (vs : List Bool) (l : ℕ) → bit_xor (bit (get_or vs (net_of l) false)) (bit (odd l)) % 2 ≡ bit (literal vs l)

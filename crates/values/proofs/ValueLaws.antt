@@ -19,7 +19,7 @@ use Rattle.laws.specs.Values.{Operations, literal_over, gate_over}
 use Rattle.frame.specs.declared.Op.{Op}
 use Rattle.frame.specs.declared.Op.TheVariants.{And, Xor}
 use Rattle.frame.specs.Frames.{op_of, gate_kind}
-use Rattle.listing.specs.declared.Gate as listing
+use Rattle.frame.specs.declared.Gate as listing
 use Rattle.listing.specs.Listing.{gate_meant, no_gate}
 use Rattle.values.specs.Values.{HoldsBy}
 

@@ -42,12 +42,10 @@ pub fn set_inputs(values: &mut [u8], inputs: usize, pattern: u64)
     ensures { HoldsValues values.new (start inputs pattern) }
 {
     values[0] = 0;
-    let mut k: usize = 0;
     let mut rest = pattern;
-    while k < inputs {
+    for k in 0..inputs {
         values[1 + k] = (rest % 2) as u8;
         rest /= 2;
-        k += 1;
     }
 }
 
@@ -58,14 +56,11 @@ pub fn run_gates(text: &[u8], at: usize, values: &mut [u8], inputs: usize, gates
         → HoldsValues values.old (start inputs p) → HoldsValues values.new (nets n p) }
 {
     let first = 1 + inputs;
-    let mut k: usize = 0;
-    while k < gates {
+    for k in 0..gates {
         let gate = gate_at(text, at, k);
-        let op = gate.op;
-        let a = literal_at(values, Literal::of(gate.x));
-        let b = literal_at(values, Literal::of(gate.y));
-        values[first + k] = gate_value(op, a, b);
-        k += 1;
+        let a = literal_at(values, Literal::from(gate.x));
+        let b = literal_at(values, Literal::from(gate.y));
+        values[first + k] = gate_value(gate.op, a, b);
     }
 }
 
@@ -75,11 +70,9 @@ pub fn read_word(text: &[u8], at: usize, values: &[u8], gates: usize, outputs: u
     ensures { (n : Netlist) (p : ℕ) → Stands (drop at text.now) n → length n.gates ≡ gates → length n.outs ≡ outputs
         → HoldsValues values.now (nets n p) → result ≡ eval n p }
 {
-    let mut k = outputs;
     let mut word: u64 = 0;
-    while 0 < k {
-        k -= 1;
-        let bit = literal_at(values, Literal::of(output_at(text, at, gates, k)));
+    for k in (0..outputs).rev() {
+        let bit = literal_at(values, Literal::from(output_at(text, at, gates, k)));
         word = 2 * word + (bit as u64);
     }
     word

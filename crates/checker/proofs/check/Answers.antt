@@ -8,18 +8,17 @@ use borrow.Author.Rules.{rules}
 use Rattle.checker.proofs.check.Goals as goal
 
 pub overflow_mul-p : goal.overflow_mul-p
-overflow_mul-p c =
-    let h = rw c.in-Done.is at c.verdict-answered.ensures in
-    omega (arith, h.3)
+overflow_mul-p c = omega (arith, c.in-Ok.ensures.3)
 
-pub returns-in-Done : goal.returns-in-Done
-returns-in-Done c =
-    let v = c.verdict-answered in
-    let h = rw c.in-Done.is at v.ensures in
-    let n = length c.args.store.now in record { replies = rw (h.1, h.2.steps, h.2.clauses); leaves = rw h.1 (kept v.new.store _ _ h.0 n h.2 (search rules) c.clear_numbers.ensures); agrees = sound _ n h.0 h.1 }
+pub returns-in-Ok : goal.returns-in-Ok
+returns-in-Ok c =
+    let v = c.verdict in
+    let h = c.in-Ok.ensures in
+    let n = length c.args.store.now in
+    record { replies = rw (h.1, h.2.steps, h.2.clauses); leaves = rw h.1 (kept v.new.store _ _ h.0 n h.2 (search rules) c.clear.ensures); agrees = sound _ n h.0 h.1 }
 
-pub returns-in-Refused : goal.returns-in-Refused
-returns-in-Refused c =
-    let v = c.verdict-answered in
-    let h = rw c.in-Refused.is at v.ensures in
-    record { replies = rw h; leaves = rw h (cleared v.new.store _ (length c.args.store.now) (search rules) c.clear_numbers-in-Refused.ensures); agrees = tt }
+pub returns-in-Err : goal.returns-in-Err
+returns-in-Err c =
+    let v = c.verdict in
+    let h = c.in-Err.ensures in
+    record { replies = rw h; leaves = rw h (cleared v.new.store _ (length c.args.store.now) (search rules) c.clear-in-Err.ensures); agrees = tt }

@@ -6,19 +6,18 @@ use Rattle.engine.proofs.AnswerLaws.{due_16, due_17, due_18, due_proof, none_wri
 use Rattle.engine.proofs.folded.Goals as goal
 
 pub returns-then-proof-bound : goal.returns-then-proof-bound
-returns-then-proof-bound c w = due_16 w _ _ c.if-proof-bound.true
+returns-then-proof-bound c w = rw c.at.ensures (due_16 w _ _ c.if-proof-bound.true)
 
 pub returns-then-work-nets : goal.returns-then-work-nets
-returns-then-work-nets c w = due_17 w _ _ c.if-proof-bound.false c.nets.ensures c.if-work-nets.true
+returns-then-work-nets c w = rw c.at-then-work-nets.ensures (due_17 w _ _ c.if-proof-bound.false c.nets.ensures c.if-work-nets.true)
 
-pub returns-then-apart-ne0 : goal.returns-then-apart-ne0
-returns-then-apart-ne0 c w =
-    let k = c.first_apart-apart in
-    due_18 w _ _ c.if-proof-bound.false c.nets.ensures c.if-work-nets.false k.result (k.ensures w (c.fold.ensures w)) c.if-apart-ne0.true
+pub returns-in-Some : goal.returns-in-Some
+returns-in-Some c w =
+    rw c.at-in-Some.ensures (due_18 w _ _ c.if-proof-bound.false c.nets.ensures c.if-work-nets.false _ (c.in-Some.ensures w (c.fold.ensures w)))
 
 pub returns : goal.returns
 returns c w =
     let proof = c.args.proof.now in
     let h = c.fold.ensures w in
-    let o = c.emit.ensures w h (none_written (length proof) (cleared proof _ (length proof) refl c.clear_bytes.ensures)) in
-    (due_proof w _ _ c.if-proof-bound.false c.nets.ensures c.if-work-nets.false _ (c.first_apart-apart.ensures w h) c.if-apart-ne0.false, o.0, o.1)
+    let o = c.emit.ensures w h (none_written (length proof) (cleared proof _ (length proof) refl c.clear.ensures)) in
+    (due_proof w _ _ c.if-proof-bound.false c.nets.ensures c.if-work-nets.false (c.in_default.ensures w h), o.0, o.1)

@@ -7,4 +7,4 @@ use Rattle.evaluator.proofs.evaluate.Goals as goal
 pub returns : goal.returns
 returns c =
     let r = c.answer-answered in
-    record { replies = r.ensures; leaves = cleared r.new.work _ (length c.args.work.now) (search rules) c.clear_bytes.ensures }
+    record { replies = r.ensures; leaves = cleared r.new.work _ (length c.args.work.now) (search rules) c.clear.ensures }

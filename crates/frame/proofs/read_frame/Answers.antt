@@ -1,39 +1,29 @@
--- What stands first is read, and then what stands behind it (`LoneLaws`); each arm knows which case of the enum it has.
+-- What stands first is read, and then what stands behind it (`LoneLaws`); each arm knows what was read.
+use Rattle.std.specs.Prelude.{Some, None, Ok, Err}
+use Rattle.std.proofs.lemmas.Result.{err_from_is_err_and}
 use Rattle.frame.proofs.LoneLaws.{lone, lone_behind}
 use Rattle.frame.proofs.read_frame.Goals as goal
 
-pub read_line-behind-requires : goal.read_line-behind-requires
-read_line-behind-requires c = (rw c.in-Read.is at c.read_line-only.ensures.ahead).0
+pub returns-in_err-frame : goal.returns-in_err-frame
+returns-in_err-frame c =
+    let p = err_from_is_err_and c.from_residual.result c.from_residual.ensures.1 in
+    rw (p.1, p.2) (lone c.args.text.now (Err c.in_err-frame.field-0.0) c.in_err-frame.ensures.reads)
 
-pub returns-in-End-behind : goal.returns-in-End-behind
-returns-in-End-behind c =
-    let a = c.args in
-    let one = c.read_line-only in
-    let two = c.read_line-behind in
-    rw c.in-End-behind.is at (lone_behind a.text.now one.result two.result _ _ one.ensures.reads c.in-Read.is two.ensures.reads)
+pub returns-in_default : goal.returns-in_default
+returns-in_default c = rw c.at.ensures (lone c.args.text.now (Ok None) (rw c.in_default.is at c.in_ok-frame.ensures.reads))
 
-pub returns-in-Refused-behind : goal.returns-in-Refused-behind
-returns-in-Refused-behind c =
-    let a = c.args in
-    let one = c.read_line-only in
-    let two = c.read_line-behind in
-    rw c.in-Refused-behind.is at (lone_behind a.text.now one.result two.result _ _ one.ensures.reads c.in-Read.is two.ensures.reads)
+pub returns-in_err-read_line : goal.returns-in_err-read_line
+returns-in_err-read_line c =
+    let p = err_from_is_err_and c.from_residual-in_err-read_line.result c.from_residual-in_err-read_line.ensures.1 in
+    rw (p.1, p.2)
+    (lone_behind c.args.text.now c.in-Some.frame c.in-Some.next (Err c.in_err-read_line.field-0.0) (rw c.in-Some.is at c.in_ok-frame.ensures.reads) c.in_err-read_line.ensures.reads)
 
-pub returns-in-Read-behind : goal.returns-in-Read-behind
-returns-in-Read-behind c =
-    let a = c.args in
-    let one = c.read_line-only in
-    let two = c.read_line-behind in
-    rw c.in-Read-behind.is at (lone_behind a.text.now one.result two.result _ _ one.ensures.reads c.in-Read.is two.ensures.reads)
+pub returns-in-None : goal.returns-in-None
+returns-in-None c =
+    lone_behind c.args.text.now c.in-Some.frame c.in-Some.next (Ok None) (rw c.in-Some.is at c.in_ok-frame.ensures.reads) (rw c.in-None.is at c.in_ok-read_line.ensures.reads)
 
-pub returns-in-Refused : goal.returns-in-Refused
-returns-in-Refused c =
-    let a = c.args in
-    let one = c.read_line-only in
-    rw c.in-Refused.is at (lone a.text.now one.result one.ensures.reads)
-
-pub returns-in-End : goal.returns-in-End
-returns-in-End c =
-    let a = c.args in
-    let one = c.read_line-only in
-    rw c.in-End.is at (lone a.text.now one.result one.ensures.reads)
+pub returns-in-Some-2 : goal.returns-in-Some-2
+returns-in-Some-2 c =
+    rw c.at-in-Some-2.ensures
+    (lone_behind c.args.text.now c.in-Some.frame c.in-Some.next (Ok (Some c.in-Some-2.field-0)) (rw c.in-Some.is at c.in_ok-frame.ensures.reads)
+    (rw c.in-Some-2.is at c.in_ok-read_line.ensures.reads))

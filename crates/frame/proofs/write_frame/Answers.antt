@@ -13,18 +13,20 @@ use Rattle.frame.proofs.write_frame.Goals as goal
 pub returns-then-not-line_number_fits : goal.returns-then-not-line_number_fits
 returns-then-not-line_number_fits c =
     let a = c.args in
-    let both = write_unfit (frame_of a.frame) (length a.out.now) (sym c.line_number_fits.ensures ∙ c.if-not-line_number_fits.true) (cleared a.out.now _ _ refl c.clear_bytes.ensures) in record { replies = both.0; leaves = both.1 }
+    let both = write_unfit (frame_of a.frame) (length a.out.now) (sym c.line_number_fits.ensures ∙ c.if-not-line_number_fits.true) (cleared a.out.now _ _ refl c.clear.ensures) in
+    record { replies = rw c.at.ensures both.0; leaves = both.1 }
 
 pub returns-then-out-line_len : goal.returns-then-out-line_len
 returns-then-out-line_len c =
     let a = c.args in
-    let zeroed = cleared a.out.now _ _ refl c.clear_bytes.ensures in
-    let both = write_short (frame_of a.frame) (length a.out.now) (omega (arith, c.line_len.ensures, ap length zeroed, length-replicate {A = ℕ} (length a.out.now) 0)) zeroed in record { replies = both.0; leaves = both.1 }
+    let zeroed = cleared a.out.now _ _ refl c.clear.ensures in
+    let both = write_short (frame_of a.frame) (length a.out.now) (omega (arith, c.line_len.ensures, ap length zeroed, length-replicate {A = ℕ} (length a.out.now) 0)) zeroed in
+    record { replies = rw c.at-then-out-line_len.ensures both.0; leaves = both.1 }
 
 pub returns : goal.returns
 returns c =
     let a = c.args in
-    let zeroed = cleared a.out.now _ _ refl c.clear_bytes.ensures in
+    let zeroed = cleared a.out.now _ _ refl c.clear.ensures in
     let w = c.write_line in
     let both = write_done (frame_of a.frame) (length a.out.now)
     (sym c.line_number_fits.ensures ∙ c.if-not-line_number_fits.false)

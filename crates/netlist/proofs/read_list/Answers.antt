@@ -1,23 +1,17 @@
 -- The list's answer and then the end's (`ListLaws`).
+use Rattle.std.proofs.lemmas.Result.{err_from_is_err_and}
 use Rattle.netlist.proofs.ListLaws.{one_refused, one_more, one_read}
 use Rattle.netlist.proofs.read_list.Goals as goal
 
-pub returns-in_default : goal.returns-in_default
-returns-in_default c =
-    let is = c.in_default.is in
-    rw (c.refusal.ensures, is) (one_refused c.args.text.now _ (rw is at c.read_part-list.ensures))
+pub returns-in_err-counts : goal.returns-in_err-counts
+returns-in_err-counts c =
+    let p = err_from_is_err_and c.from_residual.result c.from_residual.ensures.1 in
+    rw (p.1, p.2) (one_refused c.args.text.now _ c.in_err-counts.ensures)
 
-pub read_end-end-requires : goal.read_end-end-requires
-read_end-end-requires c = (rw c.in-Counted.is at c.read_part-list.ensures).inside
-
-pub returns-in_default-end : goal.returns-in_default-end
-returns-in_default-end c =
-    let list = rw c.in-Counted.is at c.read_part-list.ensures in
-    let is = c.in_default-end.is in
-    rw (c.refusal-in_default-end.ensures, is) (one_more c.args.text.now _ _ list _ (rw is at c.read_end-end.ensures))
+pub returns-in_err-read_end : goal.returns-in_err-read_end
+returns-in_err-read_end c =
+    let p = err_from_is_err_and c.from_residual-in_err-read_end.result c.from_residual-in_err-read_end.ensures.1 in
+    rw (p.1, p.2) (one_more c.args.text.now _ _ c.in_ok-counts.ensures _ c.in_err-read_end.ensures)
 
 pub returns : goal.returns
-returns c =
-    let list = rw c.in-Counted.is at c.read_part-list.ensures in
-    let end = rw c.in-At.is at c.read_end-end.ensures in
-    one_read c.args.text.now _ _ list end.1
+returns c = one_read c.args.text.now _ _ c.in_ok-counts.ensures c.in_ok-read_end.ensures

@@ -1,30 +1,21 @@
 -- Both lists' answer and then the end's (`ListLaws`).
-use mathlib.Core.Path.{◌≡◌}
-use Rattle.model.specs.Answers.Answer.{ok}
-use Rattle.model.specs.Lists.{read_both}
-use Rattle.netlist.specs.Replies.{both_of}
+use Rattle.std.proofs.lemmas.Result.{err_from_is_err_and}
 use Rattle.netlist.proofs.ReplyLaws.{both_lists}
 use Rattle.netlist.proofs.ListLaws.{lists_refused, lists_more, lists_alone}
 use Rattle.netlist.proofs.read_lists.Goals as goal
 
-pub returns-in_default : goal.returns-in_default
-returns-in_default c =
-    let is = c.in_default.is in
-    rw is (lists_refused c.args.text.now _ (rw is at c.read_both-both.ensures))
+pub returns-in_err-pair : goal.returns-in_err-pair
+returns-in_err-pair c =
+    let p = err_from_is_err_and c.from_residual.result c.from_residual.ensures.1 in
+    rw (p.1, p.2) (lists_refused c.args.text.now _ c.in_err-pair.ensures)
 
-pub read_end-end-requires : goal.read_end-end-requires
-read_end-end-requires c =
-    let both_of : ok c.in-Paired.pair ≡ both_of (read_both ((c.args.text.now))) = rw c.in-Paired.is at c.read_both-both.ensures in
-    (both_lists ((c.args.text.now)) _ (both_of)).inside
+pub read_end-requires : goal.read_end-requires
+read_end-requires c = (both_lists c.args.text.now _ c.in_ok-pair.ensures).inside
 
-pub returns-in_default-end : goal.returns-in_default-end
-returns-in_default-end c =
-    let both_of : ok c.in-Paired.pair ≡ both_of (read_both ((c.args.text.now))) = rw c.in-Paired.is at c.read_both-both.ensures in
-    let is = c.in_default-end.is in
-    rw (c.refusal.ensures, is) (lists_more ((c.args.text.now)) _ (both_of) _ (rw is at c.read_end-end.ensures))
+pub returns-in_err-read_end : goal.returns-in_err-read_end
+returns-in_err-read_end c =
+    let p = err_from_is_err_and c.from_residual-in_err-read_end.result c.from_residual-in_err-read_end.ensures.1 in
+    rw (p.1, p.2) (lists_more c.args.text.now _ c.in_ok-pair.ensures _ c.in_err-read_end.ensures)
 
 pub returns : goal.returns
-returns c =
-    let both_of : ok c.in-Paired.pair ≡ both_of (read_both ((c.args.text.now))) = rw c.in-Paired.is at c.read_both-both.ensures in
-    let ended = rw c.in-At.is at c.read_end-end.ensures in
-    lists_alone ((c.args.text.now)) _ (both_of) ended.1
+returns c = lists_alone c.args.text.now _ c.in_ok-pair.ensures c.in_ok-read_end.ensures

@@ -11,7 +11,7 @@ returns-then-bytes-stream c =
     let a = c.args in
     let n = length a.store.now in
     let e = too_long a.bytes n a.stream.now c.if-bytes-stream.true in
-    record { replies = rw e; leaves = rw e (cleared a.store.now _ n (search rules) c.clear_numbers.ensures) }
+    record { replies = rw (c.at.ensures, e); leaves = rw e (cleared a.store.now _ n (search rules) c.clear.ensures) }
 
 pub returns : goal.returns
 returns c =

@@ -5,17 +5,14 @@ use Rattle.model.specs.Frames.{line_of}
 use Rattle.reports.proofs.ReportLaws.{accepted_report, refused_report}
 use Rattle.reports.proofs.line_of.Goals as goal
 
-pub overflow_cast-steps : goal.overflow_cast-steps
-overflow_cast-steps c = let h = rw c.in-Accepted.is at c.requires in omega (arith, h.0)
+pub overflow_cast-accepted : goal.overflow_cast-accepted
+overflow_cast-accepted c = let h = rw c.in-Ok.is at c.requires in omega (arith, h.0)
 
-pub overflow_cast-clauses : goal.overflow_cast-clauses
-overflow_cast-clauses c = let h = rw c.in-Accepted.is at c.requires in omega (arith, h.1)
+pub overflow_cast-accepted-in-Ok : goal.overflow_cast-accepted-in-Ok
+overflow_cast-accepted-in-Ok c = let h = rw c.in-Ok.is at c.requires in omega (arith, h.1)
 
-pub report_line-requires-in-Refused : goal.report_line-requires-in-Refused
-report_line-requires-in-Refused c = rw c.in-Refused.is at c.requires
+pub returns-in-Ok : goal.returns-in-Ok
+returns-in-Ok c = rw c.in-Ok.is (λ a e. c.report_line.ensures ∙ ap line_of (accepted_report _ a e))
 
-pub returns-in-Accepted : goal.returns-in-Accepted
-returns-in-Accepted c = rw c.in-Accepted.is (λ a e. c.report_line.ensures ∙ ap line_of (accepted_report _ _ a e))
-
-pub returns-in-Refused : goal.returns-in-Refused
-returns-in-Refused c = rw c.in-Refused.is (λ a e. c.report_line-in-Refused.ensures ∙ ap line_of (refused_report _ _ a e))
+pub returns-in-Err : goal.returns-in-Err
+returns-in-Err c = rw c.in-Err.is (λ a e. (rw c.number.ensures at c.report_line-in-Err.ensures) ∙ ap line_of (refused_report _ _ a e))

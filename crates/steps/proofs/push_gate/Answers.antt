@@ -7,7 +7,6 @@ use lib.ListN.{take}
 use lib.Seq.{length-sets, take_all}
 use Rattle.model.specs.Clauses.{Clause}
 use Rattle.steps.specs.Progress.{clauses_of, Held}
-use Rattle.clause.proofs.PlaceLaws.{holds_own}
 use Rattle.steps.proofs.HeldLaws.{proper_at, gate_proper, gate_saved}
 use Rattle.steps.proofs.push_gate.Goals as goal
 
@@ -34,7 +33,7 @@ save-requires c =
     let g = c.gate_clause.ensures in
     let l = c.loop-j in
     let q = proper_at (clauses_of a.op a.n.code a.x.code a.y.code) l.j (gate_proper a.op a.n.code a.x.code a.y.code r.low_n r.low_x r.low_y) (omega arith) in
-    (omega (arith, r.numbers_for_all, l.invariant.1), holds_own g, rw g.same q.rising)
+    record { room = omega (arith, r.numbers_for_all, l.invariant.1); rising = rw g q.rising }
 
 pub loop-j-preserved : goal.loop-j-preserved
 loop-j-preserved c =
@@ -43,11 +42,11 @@ loop-j-preserved c =
     let k = c.clause_count-total.ensures a.n.code a.x.code a.y.code in
     let w = c.save in (
       omega arith,
-      rw (w.ensures, length-sets) l.invariant.1,
+      rw (w.ensures.stores, length-sets) l.invariant.1,
       λ cs h n.
-          subst (λ (t : List ℕ). Held t (cs ++ take (l.j + 1) (clauses_of a.op a.n.code a.x.code a.y.code))) (sym w.ensures)
+          subst (λ (t : List ℕ). Held t (cs ++ take (l.j + 1) (clauses_of a.op a.n.code a.x.code a.y.code))) (sym w.ensures.stores)
           (gate_saved l.store cs (clauses_of a.op a.n.code a.x.code a.y.code) l.j _ _
-          (gate_proper a.op a.n.code a.x.code a.y.code c.requires.low_n c.requires.low_x c.requires.low_y) (omega arith) c.gate_clause.ensures.same (omega arith)
+          (gate_proper a.op a.n.code a.x.code a.y.code c.requires.low_n c.requires.low_x c.requires.low_y) (omega arith) c.gate_clause.ensures (omega arith)
           (omega (arith, c.requires.numbers_for_all, l.invariant.1)) (l.invariant.2 cs h n)),
     )
 

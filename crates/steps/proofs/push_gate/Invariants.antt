@@ -1,5 +1,5 @@
 -- The invariant: the store holds the clauses from before and the first j of the gate's (`HeldLaws`).
-use Prim.Native.Nat.{◌-◌, ◌≤◌}
+use Prim.Native.Nat.{◌≤◌}
 use mathlib.Core.Path.{◌≡◌}
 use mathlib.Core.List.{List, ◌++◌}
 use lib.ListN.{length, take}
@@ -12,6 +12,3 @@ invariant-loop-j l =
     (l.j ≤ l.total)
     × (length l.store ≡ length l.initial.store)
     × ((cs : List Clause) → Held l.initial.store cs → length cs ≡ l.count → Held l.store (cs ++ take l.j (clauses_of l.op l.n.code l.x.code l.y.code)))
-
-abbrev pub decreases-loop-j : goal.decreases-loop-j
-decreases-loop-j l = l.total - l.j

@@ -3,7 +3,7 @@ use Rattle.steps.proofs.HeldLaws.{bounds, held_stored}
 use Rattle.steps.proofs.resolve_at.Goals as goal
 
 pub returns : goal.returns
-returns c cs h m n =
+returns c cs line h m n =
     let a = c.args in
     let answers = rw (bounds a.a, bounds a.b) at c.resolve.ensures in
-    answers _ _ (held_stored a.store.now cs h a.a m) (held_stored a.store.now cs h a.b n)
+    answers _ _ line (held_stored a.store.now cs h a.a m) (held_stored a.store.now cs h a.b n)

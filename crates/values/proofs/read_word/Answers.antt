@@ -40,7 +40,7 @@ loop-k-preserved c =
       omega arith,
       rw e (double l.word b.result (a.outputs - l.k) v.1 b.ensures.small),
       λ n p s g o h.
-          let is = output_read truths IsBit s (length_nets n p) (l.k - 1) _ b.result (omega arith) h (c.output_at.ensures n s g (omega arith)) (rw c.of.ensures at b.ensures.value) in
+          let is = output_read truths IsBit s (length_nets n p) (l.k - 1) _ b.result (omega arith) h (c.output_at.ensures n s g (omega arith)) (rw c.from.ensures at b.ensures.value) in
           rw (v.2 n p s g o h, is) (rw k at (word_more n (nets n p) (l.k - 1) (omega arith))),
     )
 

@@ -15,6 +15,3 @@ invariant-loop-k l =
     × (l.word < 2 ^ (l.outputs - l.k))
     × ((n : Netlist) (p : ℕ) → Stands (drop l.at l.text) n → length n.gates ≡ l.gates → length n.outs ≡ l.outputs → HoldsValues l.values (nets n p)
     → l.word ≡ word_from n (nets n p) l.k)
-
-abbrev pub decreases-loop-k : goal.decreases-loop-k
-decreases-loop-k l = l.k

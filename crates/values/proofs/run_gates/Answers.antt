@@ -23,8 +23,8 @@ pub loop-k-preserved : goal.loop-k-preserved
 unfolding literal
 loop-k-preserved c =
     let l = c.loop-k in
-    let x = rw c.of.ensures at c.literal_at-a.ensures.value in
-    let y = rw c.of-in-loop-k.ensures at c.literal_at-b.ensures.value in
+    let x = rw c.from.ensures at c.literal_at-a.ensures.value in
+    let y = rw c.from-in-loop-k.ensures at c.literal_at-b.ensures.value in
     let v = l.invariant in (
       omega arith,
       simp length-set v.1,

@@ -1,5 +1,5 @@
 -- The invariant: so many inputs are stored, and what is left of the pattern has the bits behind theirs (`Stored`).
-use Prim.Native.Nat.{◌+◌, ◌-◌, ◌≤◌}
+use Prim.Native.Nat.{◌+◌, ◌≤◌}
 use mathlib.Core.Path.{◌≡◌}
 use lib.ListN.{length}
 use Rattle.values.proofs.BitLaws.{Stored}
@@ -7,6 +7,3 @@ use Rattle.values.proofs.set_inputs.Given as goal
 
 abbrev pub invariant-loop-k : goal.invariant-loop-k
 invariant-loop-k l = (l.k ≤ l.inputs) × (length l.values ≡ length l.initial.values) × (1 + l.inputs ≤ length l.values) × Stored l.values l.pattern l.k l.rest
-
-abbrev pub decreases-loop-k : goal.decreases-loop-k
-decreases-loop-k l = l.inputs - l.k

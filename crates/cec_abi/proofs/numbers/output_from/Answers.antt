@@ -1,19 +1,23 @@
--- Each return knows which fields are within their bytes; the first that is not makes the numbers unfit.
+-- Each return knows which fields are within their digits; the first that is not makes the numbers unfit (`NumberLaws`).
 use mathlib.Core.Path.{refl}
 use mathlib.Core.List.{[], ◌∷◌}
-use Rattle.model.specs.Frames.{widths, output_kind}
+use Rattle.std.proofs.lemmas.Result.{err_from_is_err_and}
+use Rattle.model.specs.Frames.{two_bytes, widths, output_kind}
 use Rattle.cec_abi.specs.Calls.{limits, fit}
-use Rattle.cec_abi.proofs.NumberLaws.{tests, framed, unfit}
+use Rattle.cec_abi.proofs.NumberLaws.{fits, misfits, framed, unfit}
 use Rattle.cec_abi.proofs.numbers.output_from.Goals as goal
 
-pub returns-then-literal-gt65535 : goal.returns-then-literal-gt65535
+pub returns-in_err-literal : goal.returns-in_err-literal
 unfolding limits widths fit
-returns-then-literal-gt65535 c =
+returns-in_err-literal c =
     let a = c.args in
-    unfit output_kind (a.literal ∷ []) refl (search tests)
+    let m = misfits two_bytes a.literal c.in_err-literal.ensures in
+    let p = err_from_is_err_and c.from_residual.result c.from_residual.ensures.1 in
+    rw (p.1, p.2, m.0) (unfit output_kind (a.literal ∷ []) refl (rw (m.1)))
 
 pub returns : goal.returns
 unfolding limits widths fit
 returns c =
     let a = c.args in
-    framed output_kind (a.literal ∷ []) refl refl (search tests)
+    let s0 = fits two_bytes a.literal c.in_ok-literal.ensures in
+    rw (s0.0) (framed output_kind (a.literal ∷ []) refl refl (rw (s0.1)))

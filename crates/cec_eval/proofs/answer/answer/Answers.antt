@@ -4,19 +4,12 @@ use Rattle.cec_eval.proofs.LineLaws.{has_digits}
 use Rattle.cec_eval.proofs.answer.answer.Goals as goal
 
 pub refusal_line-requires : goal.refusal_line-requires
-refusal_line-requires c =
-    let a = c.args in
-    let e = rw c.in-Refused.is at c.evaluate_stream-evaluated.ensures in
-    has_digits a.stream.now a.pattern _ _ e
+refusal_line-requires c = has_digits c.args.stream.now c.args.pattern _ _ c.in-Err.ensures
 
-pub returns-in-Word : goal.returns-in-Word
+pub returns-in-Ok : goal.returns-in-Ok
 unfolding program
-returns-in-Word c =
-    let e = rw c.in-Word.is at c.evaluate_stream-evaluated.ensures in
-    rw (← e) c.word_line.ensures
+returns-in-Ok c = rw (← c.in-Ok.ensures) c.word_line.ensures
 
-pub returns-in-Refused : goal.returns-in-Refused
+pub returns-in-Err : goal.returns-in-Err
 unfolding program
-returns-in-Refused c =
-    let e = rw c.in-Refused.is at c.evaluate_stream-evaluated.ensures in
-    rw (← e) c.refusal_line.ensures
+returns-in-Err c = rw (← c.in-Err.ensures) c.refusal_line.ensures

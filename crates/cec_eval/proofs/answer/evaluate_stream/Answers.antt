@@ -5,7 +5,7 @@ use Rattle.cec_eval.proofs.LineLaws.{too_long, not_too_long}
 use Rattle.cec_eval.proofs.answer.evaluate_stream.Goals as goal
 
 pub returns-then-stream-gt-STREAM_BYTES : goal.returns-then-stream-gt-STREAM_BYTES
-returns-then-stream-gt-STREAM_BYTES c = let a = c.args in too_long a.stream.now a.pattern c.if-stream-gt-STREAM_BYTES.true
+returns-then-stream-gt-STREAM_BYTES c = let a = c.args in rw c.at.ensures (too_long a.stream.now a.pattern c.if-stream-gt-STREAM_BYTES.true)
 
 pub returns : goal.returns
 returns c =

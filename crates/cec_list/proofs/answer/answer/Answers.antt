@@ -4,21 +4,15 @@ use Rattle.cec_list.proofs.ListLaws.{counts_few, has_digits, counted_line, refus
 use Rattle.cec_list.proofs.answer.answer.Goals as goal
 
 pub counts_line-requires : goal.counts_line-requires
-counts_line-requires c =
-    counts_few c.args.stream.now _ (rw c.in-Counted.is at c.list_stream.ensures)
+counts_line-requires c = counts_few c.args.stream.now _ c.in-Ok.ensures
 
 pub refusal_line-requires : goal.refusal_line-requires
-refusal_line-requires c =
-    has_digits c.args.stream.now _ _ (rw c.in-Refused.is at c.list_stream.ensures)
+refusal_line-requires c = has_digits c.args.stream.now _ _ c.in-Err.ensures
 
-pub returns-in-Counted : goal.returns-in-Counted
+pub returns-in-Ok : goal.returns-in-Ok
 unfolding program
-returns-in-Counted c =
-    let e = rw c.in-Counted.is at c.list_stream.ensures in
-    rw (← counted_line (listed c.args.stream.now) _ e) c.counts_line.ensures
+returns-in-Ok c = rw (← counted_line (listed c.args.stream.now) _ c.in-Ok.ensures) c.counts_line.ensures
 
-pub returns-in-Refused : goal.returns-in-Refused
+pub returns-in-Err : goal.returns-in-Err
 unfolding program
-returns-in-Refused c =
-    let e = rw c.in-Refused.is at c.list_stream.ensures in
-    rw (← refused_line (listed c.args.stream.now) _ _ e) c.refusal_line.ensures
+returns-in-Err c = rw (← refused_line (listed c.args.stream.now) _ _ c.in-Err.ensures) c.refusal_line.ensures

@@ -4,7 +4,7 @@ use Rattle.cec_list.proofs.ListLaws.{too_long, not_too_long}
 use Rattle.cec_list.proofs.answer.list_stream.Goals as goal
 
 pub returns-then-stream-gt-STREAM_BYTES : goal.returns-then-stream-gt-STREAM_BYTES
-returns-then-stream-gt-STREAM_BYTES c = let e = too_long c.args.stream.now c.if-stream-gt-STREAM_BYTES.true in rw e
+returns-then-stream-gt-STREAM_BYTES c = let e = too_long c.args.stream.now c.if-stream-gt-STREAM_BYTES.true in rw (c.at.ensures, e)
 
 pub returns : goal.returns
 returns c =

@@ -11,9 +11,9 @@ use Rattle.cec_prove.proofs.evidence.prove_stream.Goals as goal
 pub returns-then-stream-gt-STREAM_BYTES : goal.returns-then-stream-gt-STREAM_BYTES
 returns-then-stream-gt-STREAM_BYTES c =
     let a = c.args in
-    let f = c.clear_numbers in
+    let f = c.clear in
     let long : length a.work.now ≡ working_numbers = search rules in
-    (too_long a.stream.now (omega (arith, c.if-stream-gt-STREAM_BYTES.true)), cleared a.work.now f.new.numbers working_numbers long f.ensures)
+    (rw c.at.ensures (too_long a.stream.now (omega (arith, c.if-stream-gt-STREAM_BYTES.true))), cleared a.work.now f.new.numbers working_numbers long f.ensures)
 
 pub returns : goal.returns
 returns c =

@@ -1,6 +1,5 @@
 -- A resolve, an extension, or any other frame (`ReplayLaws`).
 use Rattle.checker.proofs.ReplayLaws.{frame_resolve, frame_extend, frame_other}
-use borrow.Enum.Refused.{opened}
 use Rattle.checker.proofs.replay.frame_step.Goals as goal
 
 pub returns-in-Resolve : goal.returns-in-Resolve
@@ -14,6 +13,4 @@ returns-in-Extend c s t =
     rw (c.in-Extend.is, frame_extend a.room a.line s c.in-Extend.op c.in-Extend.x c.in-Extend.y) (c.extend_step.ensures s t)
 
 pub returns-in_default : goal.returns-in_default
-returns-in_default c s t =
-    let a = c.args in
-    frame_other a.room a.line s a.frame (opened c.in_default.in_default-own.keys3)
+returns-in_default c s t = rw c.at.ensures (frame_other c.args.room c.args.line s c.args.frame c.in_default.not-Resolve c.in_default.not-Extend)

@@ -4,8 +4,8 @@ use lib.ListN.{length}
 use Rattle.checker.specs.Replays.{RanTo}
 use Rattle.checker.proofs.replay.run_resolves.Given as goal
 
-abbrev pub invariant-loop-resolve : goal.invariant-loop-resolve
-invariant-loop-resolve l = RanTo l.room l.text l.initial.c l.initial.store l.initial.p l.store l.c l.p × (l.initial.c.at ≤ l.c.at)
+abbrev pub invariant-loop-step : goal.invariant-loop-step
+invariant-loop-step l = RanTo l.room l.text l.initial.c l.initial.store l.initial.p l.store l.c l.p × (l.initial.c.at ≤ l.c.at)
 
-abbrev pub decreases-loop-resolve : goal.decreases-loop-resolve
-decreases-loop-resolve l = length l.text - l.c.at
+abbrev pub decreases-loop-step : goal.decreases-loop-step
+decreases-loop-step l = length l.text - l.c.at

@@ -1,19 +1,16 @@
 -- The first and the last clause over the representatives, and their resolvent; the complement stands for true and has no link.
 use native.Mathlib.Omega.{arith}
 use Rattle.emit_laws.specs.CaseTrees.{xor_trees}
-use Rattle.derivation.proofs.EmitLaws.{few_old, few_then, few_gate, emits_old, emits_cut, emits_two}
+use Rattle.derivation.proofs.EmitLaws.{emits_old, emits_cut, emits_two}
 use Rattle.derivation.proofs.xors.xor_same.Goals as goal
 
-pub returns : goal.returns
+pub returns-clause-emits : goal.returns-clause-emits
 unfolding xor_trees
-returns c =
+returns-clause-emits c =
     let x = c.complement-not_x.ensures in
-    let y = c.complement-not_y.ensures in record {
-      few = few_gate (few_then {n = 0} (few_then (few_then c.subst2-first.ensures.few c.subst2-fourth.ensures.few) c.resolve_on-down.ensures.few) (few_old c.given.ensures))
-          c.two_links.ensures;
-      emits = λ t links k h.
-          emits_two
-          (emits_cut (c.subst2-first.ensures.emits t links k h.x h.y)
-          (rw (x, y) at (c.subst2-fourth.ensures.emits t links k (omega (arith, x)) (omega (arith, y)))) (rw (c.representative.ensures t k.rows (omega arith)) at c.resolve_on-down.ensures.emits))
-          (emits_old _ _ 0 c.given.ensures) c.two_links.ensures;
-    }
+    let y = c.complement-not_y.ensures in
+    λ t links k h.
+    emits_two
+    (emits_cut (c.subst2-first.ensures.emits t links k h.x h.y)
+    (rw (x, y) at (c.subst2-fourth.ensures.emits t links k (omega (arith, x)) (omega (arith, y)))) (rw (c.representative.ensures t k.rows (omega arith)) at c.resolve_on-down.ensures.emits))
+    (emits_old _ _ 0 c.given.ensures) c.two_links.ensures

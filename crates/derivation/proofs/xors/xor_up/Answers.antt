@@ -1,38 +1,15 @@
 -- Three resolutions, as `imply_xor` has them, with the first and the last clause of the earlier gate.
-use mathlib.Core.Path.{◌∙◌}
 use native.Mathlib.Omega.{arith}
-use Rattle.derivation.proofs.EmitLaws.{few_then, room_then, emits_cut, emits_cut_left, emits_cut_right}
+use Rattle.derivation.proofs.EmitLaws.{emits_cut, emits_cut_left, emits_cut_right}
 use Rattle.derivation.proofs.xors.xor_up.Goals as goal
 
-pub subst2-third-requires : goal.subst2-third-requires
-subst2-third-requires c = (
-  room_then c.requires.0 (few_then c.subst2-second.ensures.few c.resolve_on-left.ensures.few) (c.proof-2-1.given ∙ c.proof-1.given) (omega arith),
-  c.requires.1,
-)
-
-pub number_at-requires-2 : goal.number_at-requires-2
-number_at-requires-2 c =
-    (c.requires.1, c.requires.2, omega arith)
-
-pub resolve_on-right-requires : goal.resolve_on-right-requires
-resolve_on-right-requires c =
-    room_then c.requires.0 (few_then (few_then c.subst2-second.ensures.few c.resolve_on-left.ensures.few) c.subst2-third.ensures.few)
-    (c.proof-3-1.given ∙ c.proof-2-1.given ∙ c.proof-1.given) (omega arith)
-
-pub resolve_on-requires : goal.resolve_on-requires
-resolve_on-requires c =
-    room_then c.requires.0 (few_then (few_then (few_then c.subst2-second.ensures.few c.resolve_on-left.ensures.few) c.subst2-third.ensures.few) c.resolve_on-right.ensures.few)
-    (c.proof-4-1.given ∙ c.proof-3-1.given ∙ c.proof-2-1.given ∙ c.proof-1.given) (omega arith)
-
-pub returns : goal.returns
-returns c =
+pub returns-clause-emits : goal.returns-clause-emits
+returns-clause-emits c =
     let x = c.complement-not_x.ensures in
-    let y = c.complement-not_y.ensures in record {
-      few = few_then (few_then (few_then (few_then c.subst2-second.ensures.few c.resolve_on-left.ensures.few) c.subst2-third.ensures.few) c.resolve_on-right.ensures.few) c.resolve_on.ensures.few;
-      emits = λ t links k h u.
-          let q = c.representative-q.ensures t k.rows (omega arith) in
-          emits_cut
-          (emits_cut_left (rw y at (c.subst2-second.ensures.emits t links k h.x (omega (arith, y)))) (rw (c.number_at.ensures links k.numbers u, q) at c.resolve_on-left.ensures.emits))
-          (emits_cut_right (rw x at (c.subst2-third.ensures.emits t links k (omega (arith, x)) h.y)) (rw (c.number_at-2.ensures links k.numbers u, q) at c.resolve_on-right.ensures.emits))
-          (rw (c.representative.ensures t k.rows (omega arith)) at c.resolve_on.ensures.emits);
-    }
+    let y = c.complement-not_y.ensures in
+    λ t links k h u.
+    let q = c.representative-q.ensures t k.rows (omega arith) in
+    emits_cut
+    (emits_cut_left (rw y at (c.subst2-second.ensures.emits t links k h.x (omega (arith, y)))) (rw (c.number_at.ensures links k.numbers u, q) at c.resolve_on-left.ensures.emits))
+    (emits_cut_right (rw x at (c.subst2-third.ensures.emits t links k (omega (arith, x)) h.y)) (rw (c.number_at-2.ensures links k.numbers u, q) at c.resolve_on-right.ensures.emits))
+    (rw (c.representative.ensures t k.rows (omega arith)) at c.resolve_on.ensures.emits)

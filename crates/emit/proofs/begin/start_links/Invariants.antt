@@ -1,6 +1,5 @@
 -- The invariant: the numbers of net 0 and of the inputs below k stand, and rows in front stayed.
-use Prim.Native.Nat.{◌-◌, ◌*◌, ◌≤◌}
-use mathlib.Core.Path.{◌≡◌}
+use Prim.Native.Nat.{◌*◌, ◌≤◌}
 use mathlib.Core.List.{List}
 use lib.ListN.{length}
 use Rattle.fold_laws.specs.Table.{Entry}
@@ -11,10 +10,5 @@ use Rattle.emit.proofs.begin.start_links.Given as goal
 
 abbrev pub invariant-loop-k : goal.invariant-loop-k
 invariant-loop-k l =
-    (l.k ≤ l.inputs)
-    × (length l.work ≡ length l.initial.work)
-    × Keeps l.work l.start (start_links l.k)
+    Keeps l.work l.start (start_links l.k)
     × ((t : List Entry) → HoldsTable l.initial.work t → row_width * length t ≤ l.start → HoldsTable l.work t)
-
-abbrev pub decreases-loop-k : goal.decreases-loop-k
-decreases-loop-k l = l.inputs - l.k

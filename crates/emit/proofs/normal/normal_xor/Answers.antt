@@ -1,6 +1,7 @@
 -- The signs are taken off as the definition does, then the operands are in order, or are exchanged (`NormalLaws`).
 use mathlib.Core.Path.{◌≡◌, ◌∙◌}
 use mathlib.Core.Bool.{true}
+use native.Mathlib.Omega.{arith}
 use lib.ListN.{length}
 use Rattle.fold_laws.specs.Table.{rep_of}
 use Rattle.emit_laws.specs.Gates.{unsigned}
@@ -8,19 +9,17 @@ use Rattle.derivation.specs.Known.{literals_of, numbers_of}
 use Rattle.emit.proofs.NormalLaws.{unsigned_x, unsigned_y, normal_kept, normal_swapped}
 use Rattle.emit.proofs.normal.normal_xor.Goals as goal
 
-pub returns-then-representative : goal.returns-then-representative
-returns-then-representative c t h x y =
+pub returns-then-le : goal.returns-then-le
+returns-then-le c t h x y =
     let d = c.args.d in
     let p = c.representative.ensures t h x in
     let q = c.representative-2.ensures t h y in
     let u = c.turn-unsigned in
-    let sp = c.sign-first.ensures in
-    let sq = c.sign-second.ensures in
-    let is : literals_of u.result ≡ unsigned (rep_of t) true (literals_of d) = rw (sp, sq, p, q) at u.ensures.literals in
-    let ns = rw (sp, sq, p, q) at u.ensures.numbers in
+    let is : literals_of u.result ≡ unsigned (rep_of t) true (literals_of d) = rw (c.sign-first.ensures, c.sign-second.ensures, p, q) at u.ensures.literals in
+    let ns = rw (c.sign-first.ensures, c.sign-second.ensures, p, q) at u.ensures.numbers in
     let r = c.representative-3.ensures t h (unsigned_x (rep_of t) true (literals_of d) _ is (length t) x) in
     let s = c.representative-4.ensures t h (unsigned_y (rep_of t) true (literals_of d) _ is (length t) y) in
-    normal_kept (rep_of t) true (literals_of d) (literals_of u.result) (numbers_of d) (numbers_of u.result) is ns (rw (r, s) at c.if-representative.true)
+    normal_kept (rep_of t) true (literals_of d) (literals_of u.result) (numbers_of d) (numbers_of u.result) is ns (grind (arith, r, s))
 
 pub returns : goal.returns
 returns c t h x y =
@@ -28,11 +27,9 @@ returns c t h x y =
     let p = c.representative.ensures t h x in
     let q = c.representative-2.ensures t h y in
     let u = c.turn-unsigned in
-    let sp = c.sign-first.ensures in
-    let sq = c.sign-second.ensures in
-    let is : literals_of u.result ≡ unsigned (rep_of t) true (literals_of d) = rw (sp, sq, p, q) at u.ensures.literals in
-    let ns = rw (sp, sq, p, q) at u.ensures.numbers in
+    let is : literals_of u.result ≡ unsigned (rep_of t) true (literals_of d) = rw (c.sign-first.ensures, c.sign-second.ensures, p, q) at u.ensures.literals in
+    let ns = rw (c.sign-first.ensures, c.sign-second.ensures, p, q) at u.ensures.numbers in
     let r = c.representative-3.ensures t h (unsigned_x (rep_of t) true (literals_of d) _ is (length t) x) in
     let s = c.representative-4.ensures t h (unsigned_y (rep_of t) true (literals_of d) _ is (length t) y) in
-    let n = normal_swapped (rep_of t) true (literals_of d) (literals_of u.result) (numbers_of d) (numbers_of u.result) is ns (rw (r, s) at c.if-representative.false) in
+    let n = normal_swapped (rep_of t) true (literals_of d) (literals_of u.result) (numbers_of d) (numbers_of u.result) is ns (grind (arith, r, s)) in
     (c.swap_xor.ensures.literals ∙ n.0, c.swap_xor.ensures.numbers ∙ n.1)

@@ -1,9 +1,7 @@
 -- The invariant: of whatever two lists stand in the text, the outputs before i were emitted, and with what is left they make up the tree of
 -- all (`OutputLaws`).
-use mathlib.Core.Path.{◌≡◌, refl, ap, ◌∙◌}
+use mathlib.Core.Path.{refl, ap}
 use native.Mathlib.Omega.{arith}
-use borrow.Author.Rules.{rules}
-use lib.ListN.{length}
 use Rattle.model.specs.Nets.{Gate}
 use Rattle.model.specs.Miter.{z_gates}
 use Rattle.laws.specs.MiterOrder.{length_z}
@@ -13,94 +11,42 @@ use Rattle.miter.proofs.MiterLaws.{within}
 use Rattle.emit.proofs.OutputLaws.{up_to_first, up_to_next, up_to_all, z_below, last_tree_lem}
 use Rattle.emit.proofs.outputs.outputs.Goals as goal
 
-pub loop-i-init : goal.loop-i-init
-loop-i-init c =
-    let small = within c.requires.0 in (
-      omega arith,
-      small.some,
-      omega (arith, c.first_z-z.ensures, c.first_w-first_w.ensures),
-      refl,
-      record { lines = omega arith; clauses = omega arith },
-      record { within = small; few = c.requires.3; z_is = c.first_z-z.ensures; w_is = c.first_w-first_w.ensures; kw_is = c.first_w_clause-kw.ensures },
-      λ l t links known n p s whole h. h,
-    )
-
-pub next_out-run-requires : goal.next_out-run-requires
-next_out-run-requires c =
-    let long : length c.loop-i.proof ≡ length c.args.proof.now = c.loop-i.invariant.3 ∙ search rules in
-    let pre = c.requires in
-    let l = c.loop-i in
-    let b = l.invariant.5 in
-    let i = c.loop-i-test.true in
-    let first = c.out-run in (
-      record {
-        bytes_for_all = omega (arith, pre.1.bytes_for_all, l.invariant.4.lines, first.ensures.few.lines, long);
-        numbers = omega (arith, pre.1.numbers, l.invariant.4.clauses, first.ensures.few.clauses);
-      },
-      pre.2,
-      omega (arith, l.invariant.2),
-      omega arith,
-      omega arith,
-      omega arith,
-    )
-
 pub loop-i-preserved : goal.loop-i-preserved
 loop-i-preserved c =
     let l = c.loop-i in
     let less = c.loop-i-test.true in
     let gate = c.outputs_of-gate in
-    let next = c.next_out-run in
-    let bytes : length next.new.proof ≡ length l.proof = search rules in (
+    let next = c.next_out-run in (
       omega arith,
-      omega arith,
-      omega arith,
-      bytes ∙ l.invariant.3,
       record {
-        lines = omega (arith, l.invariant.0, l.invariant.4.lines, next.ensures.few.lines);
-        clauses = omega (arith, l.invariant.0, l.invariant.4.clauses, next.ensures.few.clauses);
+        lines = omega (arith, l.invariant.1.lines, next.ensures.few.lines);
+        clauses = omega (arith, l.invariant.1.clauses, next.ensures.few.clauses);
       },
-      l.invariant.5,
+      l.invariant.2,
       λ w t links known n p s whole h.
           let x = ap (λ (g : Gate). g.x) (gate.ensures w) in
           let y = ap (λ (g : Gate). g.y) (gate.ensures w) in
           let below = z_below w l.i less in
           up_to_next (rep_of t) (link_of links) (z_gates w.left w.right) _ _ _ _ _ gate.result.x gate.result.y
-          l.invariant.0 (omega (arith, length_z w.left w.right w.alike, w.outputs)) x y (l.invariant.6 w t links known n p s whole h)
+          (omega arith) (omega (arith, length_z w.left w.right w.alike, w.outputs)) x y (l.invariant.3 w t links known n p s whole h)
           (next.ensures.emits t links known (omega (arith, below.0)) (omega (arith, below.1))),
     )
 
-pub resolve_on-requires : goal.resolve_on-requires
-resolve_on-requires c =
-    let long : length c.loop-i.proof ≡ length c.args.proof.now = c.loop-i.invariant.3 ∙ search rules in
-    let pre = c.requires in
-    let l = c.loop-i in
-    let first = c.out-run in
-    record {
-      bytes_for_all = omega (arith, pre.1.bytes_for_all, l.invariant.4.lines, l.invariant.0, l.invariant.1, first.ensures.few.lines, long);
-      numbers = omega (arith, pre.1.numbers, l.invariant.4.clauses, l.invariant.0, l.invariant.1, first.ensures.few.clauses);
-    }
-
-pub returns : goal.returns
-returns c =
+pub returns-clause-emits : goal.returns-clause-emits
+returns-clause-emits c w t links known n k =
     let l = c.loop-i in
     let first = c.out-run in
     let gate = c.outputs_of-first in
     let a = c.args in
-    let end = c.resolve_on in record {
-      few = record {
-        lines = omega (arith, l.invariant.4.lines, l.invariant.0, l.invariant.1, first.ensures.few.lines, end.ensures.few.lines);
-        clauses = omega (arith, l.invariant.4.clauses, l.invariant.0, l.invariant.1, first.ensures.few.clauses, end.ensures.few.clauses);
-      };
-      emits = λ w t links known n k.
-          let gs = z_gates w.left w.right in
-          let many = length_z w.left w.right w.alike in
-          let x = ap (λ (g : Gate). g.x) (gate.ensures w) in
-          let y = ap (λ (g : Gate). g.y) (gate.ensures w) in
-          let below = z_below w 0 (within w).some in
-          let one =
-          up_to_first (rep_of t) (link_of links) gs _ _ _ a.kz _ gate.result.x gate.result.y
-          (omega (arith, many, w.outputs, within w)) x y (first.ensures.emits t links known (omega (arith, below.0)) (omega (arith, below.1))) in
-          rw (← last_tree_lem w (rep_of t) links _ _ a.kz _ _ l.invariant.5 refl k)
-          (up_to_all (rep_of t) (link_of links) gs _ _ _ a.kz _ (omega (arith, many, w.outputs, l.invariant.1, c.loop-i-test.false))
-          (l.invariant.6 w t links known n _ _ _ one) (rw (c.last_clause.ensures, c.positive.ensures) at end.ensures.emits));
-    }
+    let end = c.resolve_on in
+    let gs = z_gates w.left w.right in
+    let many = length_z w.left w.right w.alike in
+    let x = ap (λ (g : Gate). g.x) (gate.ensures w) in
+    let y = ap (λ (g : Gate). g.y) (gate.ensures w) in
+    let below = z_below w 0 (within w).some in
+    let one =
+    up_to_first (rep_of t) (link_of links) gs _ _ _ a.kz _ gate.result.x gate.result.y
+    (omega (arith, many, w.outputs, within w)) x y (first.ensures.emits t links known (omega (arith, below.0)) (omega (arith, below.1))) in
+    rw (← last_tree_lem w (rep_of t) links _ _ a.kz _ _ l.invariant.2 refl k)
+    (up_to_all (rep_of t) (link_of links) gs _ _ _ a.kz _ (omega (arith, many, w.outputs, (within w).some, c.loop-i-test.false))
+    (l.invariant.3 w t links known n _ _ _ one) (rw (c.last_clause.ensures, c.positive.ensures) at end.ensures.emits))

@@ -17,10 +17,7 @@ use Rattle.emit.proofs.outputs.outputs.Given as goal
 
 abbrev pub invariant-loop-i : goal.invariant-loop-i
 invariant-loop-i l =
-    (1 ≤ l.i)
-    × (l.i ≤ l.count)
-    × (l.w ≤ l.first_w + l.i)
-    × (length l.proof ≡ length l.initial.proof)
+    (l.w ≤ l.first_w + l.i)
     × Few l.initial.run (7 * (l.i - 1)) l.run
     × Begin l.pair l.z l.first_w l.kz l.kw
     × ((w : PairStands l.text l.pair) (t : List Entry) (links : List (List ℕ)) → Known l.work l.start t links
@@ -28,6 +25,3 @@ invariant-loop-i l =
     → (p : List ℕ) (s : Derived) (whole : Tree)
     → UpTo (rep_of t) (link_of links) (z_gates w.left w.right) l.first_w l.kw l.z l.kz (l.kz + 4 * l.pair.outputs + 3 * (l.pair.outputs - 1)) p s whole l.initial.i l.initial.proof l.initial.run l.initial.w
     → UpTo (rep_of t) (link_of links) (z_gates w.left w.right) l.first_w l.kw l.z l.kz (l.kz + 4 * l.pair.outputs + 3 * (l.pair.outputs - 1)) p s whole l.i l.proof l.run l.w)
-
-abbrev pub decreases-loop-i : goal.decreases-loop-i
-decreases-loop-i l = l.count - l.i

@@ -1,14 +1,13 @@
 -- Even literal, clauses over a key, two links: the numbers as the definition keeps them (`PassLaws`).
-use mathlib.Core.Path.{refl}
-use borrow.Author.Tests.{not-true, not-false}
 use Rattle.emit.proofs.PassLaws.{slots_plain, slots_own, slots_linked}
 use Rattle.emit.proofs.pass.exchange_links.Goals as goal
+use Rattle.emit.proofs.pass.exchange_links.Goals.{then-not-turned-via-then-not-turned, then-not-turned-via-else-not-turned+then-not-gate}
 
-pub returns-then-not-turned : goal.returns-then-not-turned
-returns-then-not-turned c = record { same = (refl, refl); emits = λ p q s ts f. rw (not-true c.args.turned c.if-not-turned.true-raw) (slots_plain ts f) }
+pub returns-then-not-turned-clause-emits : goal.returns-then-not-turned-clause-emits
+returns-then-not-turned-clause-emits c p q s ts f = elim c.then-not-turned.branch [
+  | then-not-turned-via-then-not-turned w ↦ rw w.if-not-turned.true (slots_plain ts f)
+  | then-not-turned-via-else-not-turned+then-not-gate w ↦ rw w.if-not-turned.false (slots_own ts w.if-not-gate.true f)
+]
 
-pub returns-then-not-gate : goal.returns-then-not-gate
-returns-then-not-gate c = record { same = (refl, refl); emits = λ p q s ts f. rw (not-false c.args.turned c.if-not-turned.false-raw) (slots_own ts (not-true _ c.if-not-gate.true) f) }
-
-pub returns : goal.returns
-returns c = record { same = (refl, refl); emits = λ p q s ts f. rw (not-false c.args.turned c.if-not-turned.false-raw) (slots_linked ts (not-false _ c.if-not-gate.false) f) }
+pub returns-clause-emits : goal.returns-clause-emits
+returns-clause-emits c p q s ts f = rw (c.if-not-turned.false, c.if-not-gate.false) (slots_linked ts c.if-not-gate.false f)

@@ -1,20 +1,16 @@
 -- The invariant: the lines of the gates below i are written, and what is left of the loop makes up the whole (`PassLaws`).
 use Prim.Native.Nat.{◌+◌, ◌<◌}
-use mathlib.Core.Path.{◌≡◌, refl, ◌∙◌}
+use mathlib.Core.Path.{◌≡◌}
 use native.Mathlib.Omega.{arith}
 use lib.ListN.{length}
 use Rattle.model.specs.Miter.{first_gate, gates_of}
 use Rattle.laws.specs.MiterOrder.{length_gates}
 use Rattle.emit.proofs.PassLaws.{up_to_none, up_to_next, reads_done, up_to_all}
-use borrow.Author.Rules.{rules}
 use Rattle.emit.proofs.pass.gates.Goals as goal
 
 pub loop-i-init : goal.loop-i-init
 loop-i-init c =
     let a = c.args in (
-      omega arith,
-      refl,
-      refl,
       omega arith,
       omega arith,
       omega arith,
@@ -27,14 +23,11 @@ loop-i-preserved c =
     let l = c.loop-i in
     let first = c.first_gate-first in
     let a = c.args in (
-      omega arith,
-      (let s : length o.new.work ≡ length l.work = search rules in s) ∙ l.invariant.1,
-      (let s : length o.new.proof ≡ length l.proof = search rules in s) ∙ l.invariant.2,
-      omega (arith, o.ensures.few.lines, l.invariant.3),
-      omega (arith, o.ensures.few.clauses, l.invariant.4),
-      omega (arith, o.ensures.few.next, l.invariant.5),
+      omega (arith, o.ensures.few.lines, l.invariant.0),
+      omega (arith, o.ensures.few.clauses, l.invariant.1),
+      omega (arith, o.ensures.few.next, l.invariant.2),
       λ w t k n.
-          let u = l.invariant.6 w t k n in
+          let u = l.invariant.3 w t k n in
           let h : l.i < length (gates_of w.left w.right) = omega (arith, length_gates w.left w.right w.alike, w.left_gates, w.right_gates_lem) in
           let e : first.result + l.i ≡ first_gate w.left + l.i = omega (arith, first.ensures, w.inputs) in
           let low = reads_done a.proof.now a.at a.start t w.left w.right w.alike l.i _ _ h (c.gate_of-gate.ensures w) e in
@@ -42,13 +35,9 @@ loop-i-preserved c =
           (o.ensures.done t u.links u.known (omega (arith, u.long, first.ensures)) (omega (arith, first.ensures)) low),
     )
 
-pub returns : goal.returns
-returns c =
+pub returns-clause-done : goal.returns-clause-done
+returns-clause-done c w t k n =
     let a = c.args in
     let l = c.loop-i in
-    let v = l.invariant in record {
-      few = (omega (arith, v.3), omega (arith, v.4));
-      done = λ w t k n.
-          up_to_all a.proof.now a.at a.start t w.left w.right l.proof l.work l.done l.i
-          (omega (arith, length_gates w.left w.right w.alike, w.left_gates, w.right_gates_lem)) (v.6 w t k n);
-    }
+    up_to_all a.proof.now a.at a.start t w.left w.right l.proof l.work l.done l.i
+    (omega (arith, length_gates w.left w.right w.alike, w.left_gates, w.right_gates_lem)) (l.invariant.3 w t k n)

@@ -1,5 +1,5 @@
 -- The invariant: the lines of the gates below i are written, and what is left of the loop makes up the whole (`PassLaws`).
-use Prim.Native.Nat.{◌+◌, ◌-◌, ◌*◌, ◌≤◌}
+use Prim.Native.Nat.{◌+◌, ◌*◌, ◌≤◌}
 use mathlib.Core.Path.{◌≡◌}
 use mathlib.Core.List.{List}
 use lib.ListN.{length}
@@ -13,14 +13,8 @@ use Rattle.emit.proofs.pass.gates.Given as goal
 
 abbrev pub invariant-loop-i : goal.invariant-loop-i
 invariant-loop-i l =
-    (l.i ≤ l.total)
-    × (length l.work ≡ length l.initial.work)
-    × (length l.proof ≡ length l.initial.proof)
-    × (l.done.lines ≤ l.initial.done.lines + lines_per_gate * l.i)
+    (l.done.lines ≤ l.initial.done.lines + lines_per_gate * l.i)
     × (l.done.clauses ≤ l.initial.done.clauses + lines_per_gate * l.i)
     × (l.done.next ≤ l.initial.done.next + 4 * l.i)
     × ((w : PairStands l.text l.pair) (t : List Entry) → Known l.initial.work l.start t (start_links l.pair.inputs)
     → length t ≡ 1 + l.pair.inputs + l.pair.left + l.pair.right → UpTo l.initial.proof l.initial.done l.proof l.work l.start l.done t w.left w.right l.i)
-
-abbrev pub decreases-loop-i : goal.decreases-loop-i
-decreases-loop-i l = l.total - l.i

@@ -3,7 +3,4 @@ use Rattle.fold.proofs.EntryLaws.{linked_is}
 use Rattle.fold.proofs.entry.entered.Goals as goal
 
 pub returns-in-Is : goal.returns-in-Is
-returns-in-Is c t k h n e = rw (c.in-Is.is, c.keyless.ensures) (linked_is t k _ _ _ _ e c.signed.ensures)
-
-pub returns-in-Key : goal.returns-in-Key
-returns-in-Key c t k h n e = rw c.in-Key.is (c.found.ensures t k h n e)
+returns-in-Is c t k h n e = rw (c.in-Is.is, c.keyless.ensures) (linked_is t k _ _ _ _ e c.complement_if.ensures)

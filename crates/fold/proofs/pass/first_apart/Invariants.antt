@@ -1,5 +1,5 @@
 -- The invariant: the outputs below k have the same representatives, so the comparison goes on from k.
-use Prim.Native.Nat.{◌+◌, ◌-◌, ◌≤◌}
+use Prim.Native.Nat.{◌+◌}
 use mathlib.Core.Path.{◌≡◌}
 use mathlib.Core.List.{map}
 use lib.ListN.{drop}
@@ -10,8 +10,4 @@ use Rattle.fold.proofs.pass.first_apart.Given as goal
 
 abbrev pub invariant-loop-k : goal.invariant-loop-k
 invariant-loop-k l =
-    (l.k ≤ l.outputs)
-    × ((w : PairStands l.text l.pair) → HoldsTable l.work (both_table w.left w.right) → by_reps w.left w.right ≡ reps_apart (1 + l.k) (both_table w.left w.right) (drop l.k w.left.outs) (drop l.k (map (moved_to w.left) w.right.outs)))
-
-abbrev pub decreases-loop-k : goal.decreases-loop-k
-decreases-loop-k l = l.outputs - l.k
+    (w : PairStands l.text l.pair) → HoldsTable l.work (both_table w.left w.right) → by_reps w.left w.right ≡ reps_apart (1 + l.k) (both_table w.left w.right) (drop l.k w.left.outs) (drop l.k (map (moved_to w.left) w.right.outs))

@@ -22,7 +22,6 @@ nets-nets-requires c = within c.requires.0
 
 pub loop-k-init : goal.loop-k-init
 loop-k-init c = (
-  omega arith,
   refl,
   c.first_gate-first.ensures,
   λ w.
@@ -38,13 +37,8 @@ insert-requires c =
     record {
       inside = omega arith;
       few = omega (arith, few_left w, few_right w, w.inputs, w.alike.left.inputs);
-      room = omega (arith, c.requires.1, l.invariant.1, same);
+      room = omega (arith, c.requires.1, l.invariant.0, same);
     }
-
-pub overflow_add-k : goal.overflow_add-k
-overflow_add-k c =
-    let w = c.requires.0 in
-    omega (arith, few_left w, few_right w)
 
 pub loop-k-preserved : goal.loop-k-preserved
 loop-k-preserved c =
@@ -52,12 +46,11 @@ loop-k-preserved c =
     let g = c.gate_of-gate in
     let m = c.entry-own in
     let e = c.insert in (
-      omega arith,
-      (let s : length e.new.work ≡ length l.work = search rules in s) ∙ l.invariant.1,
-      l.invariant.2,
+      (let s : length e.new.work ≡ length l.work = search rules in s) ∙ l.invariant.0,
+      l.invariant.1,
       λ w.
           gate_entered w.left w.right w.alike _ l.k _ (gate_meant g.result) (entry_of m.result) l.work e.new.work
-          (omega (arith, length_gates w.left w.right w.alike, w.left_gates, w.right_gates_lem)) (omega (arith, w.inputs, l.invariant.2)) (g.ensures w) (l.invariant.3 w) m.ensures e.ensures,
+          (omega (arith, length_gates w.left w.right w.alike, w.left_gates, w.right_gates_lem)) (omega (arith, w.inputs, l.invariant.1)) (g.ensures w) (l.invariant.2 w) m.ensures e.ensures,
     )
 
 pub returns : goal.returns
@@ -65,4 +58,4 @@ returns c w =
     let l = c.loop-k in
     subst (HoldsTable l.work)
     (after_all w.left.inputs (gates_of w.left w.right) l.k (omega (arith, length_gates w.left w.right w.alike, w.left_gates, w.right_gates_lem)))
-    (l.invariant.3 w).rows
+    (l.invariant.2 w).rows

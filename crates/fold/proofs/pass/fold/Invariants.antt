@@ -1,5 +1,5 @@
 -- The invariant: the entries of the nets before gate k stand (`PassLaws`).
-use Prim.Native.Nat.{◌+◌, ◌-◌, ◌≤◌}
+use Prim.Native.Nat.{◌+◌}
 use mathlib.Core.Path.{◌≡◌}
 use lib.ListN.{length}
 use Rattle.model.specs.Miter.{gates_of}
@@ -10,7 +10,4 @@ use Rattle.fold.proofs.pass.fold.Given as goal
 
 abbrev pub invariant-loop-k : goal.invariant-loop-k
 invariant-loop-k l =
-    (l.k ≤ l.gates) × (length l.work ≡ length l.initial.work) × (l.first ≡ 1 + l.pair.inputs) × ((w : PairStands l.text l.pair) → Indexed l.work l.nets (after w.left.inputs (gates_of w.left w.right) l.k))
-
-abbrev pub decreases-loop-k : goal.decreases-loop-k
-decreases-loop-k l = l.gates - l.k
+    (length l.work ≡ length l.initial.work) × (l.first ≡ 1 + l.pair.inputs) × ((w : PairStands l.text l.pair) → Indexed l.work l.nets (after w.left.inputs (gates_of w.left w.right) l.k))

@@ -12,15 +12,14 @@ use borrow.Author.Rules.{rules}
 use Rattle.fold.proofs.pass.set_bases.Goals as goal
 
 pub loop-k-init : goal.loop-k-init
-loop-k-init c = (omega arith, refl, rw bases_none c.empty.ensures)
+loop-k-init c = (refl, rw bases_none c.empty.ensures)
 
 pub loop-k-preserved : goal.loop-k-preserved
 loop-k-preserved c =
     let l = c.loop-k in
     let is : entry_of c.keyless.result ≡ model.base_entry l.k = c.keyless.ensures ∙ rw c.positive.ensures in (
-      omega arith,
-      (let s : length c.insert.new.work ≡ length l.work = search rules in s) ∙ l.invariant.1,
-      subst (Indexed c.insert.new.work _) (sym (bases_more l.k)) (rw is at (c.insert.ensures (model.bases 0 l.k) l.invariant.2 (length_bases 0 l.k))),
+      (let s : length c.insert.new.work ≡ length l.work = search rules in s) ∙ l.invariant.0,
+      subst (Indexed c.insert.new.work _) (sym (bases_more l.k)) (rw is at (c.insert.ensures (model.bases 0 l.k) l.invariant.1 (length_bases 0 l.k))),
     )
 
 pub returns : goal.returns
@@ -28,4 +27,4 @@ returns c =
     let l = c.loop-k in
     let a = c.args in
     let e : l.k ≡ 1 + a.inputs = omega arith in
-    subst (λ (k : ℕ). Indexed l.work a.nets (model.bases 0 k)) e l.invariant.2
+    subst (λ (k : ℕ). Indexed l.work a.nets (model.bases 0 k)) e l.invariant.1

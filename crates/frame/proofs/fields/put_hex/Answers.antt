@@ -7,21 +7,16 @@ use Rattle.model.specs.Frames.{hex}
 use Rattle.frame.proofs.WriteLaws.{store_digit}
 use Rattle.frame.proofs.fields.put_hex.Goals as goal
 
-pub loop-left-preserved : goal.loop-left-preserved
-loop-left-preserved c =
+pub loop-i-preserved : goal.loop-i-preserved
+loop-i-preserved c =
     let a = c.args in
-    let l = c.loop-left in
-    let v = l.invariant in
-    let e : suc (l.left - 1) ≡ l.left = omega arith in (
-      omega arith,
-      simp length-set v.1,
-      simp length-set v.2,
-      (rw e at (store_digit l.out a.at (l.left - 1) l.rest _ c.digit_of.ensures)) ∙ v.3,
-    )
+    let l = c.loop-i in
+    let e : suc (l.i - 1) ≡ l.i = omega arith in
+    (simp length-set l.invariant.0, (rw e at (store_digit l.out a.at (l.i - 1) l.rest _ c.digit_of.ensures)) ∙ l.invariant.1)
 
 pub returns : goal.returns
 unfolding hex
 returns c =
-    let l = c.loop-left in
-    let z : l.left ≡ 0 = omega arith in
-    (refl, rw z at l.invariant.3)
+    let l = c.loop-i in
+    let z : l.i ≡ 0 = omega arith in
+    (refl, rw z at l.invariant.1)

@@ -6,9 +6,6 @@ use lib.Seq.{sets}
 use Rattle.model.specs.Frames.{hex}
 use Rattle.frame.proofs.fields.put_hex.Given as goal
 
-abbrev pub invariant-loop-left : goal.invariant-loop-left
-invariant-loop-left l =
-    (l.left ≤ l.width) × (l.at + l.width ≤ length l.out) × (length l.out ≡ length l.initial.out) × (sets l.out l.at (hex l.left l.rest) ≡ sets l.initial.out l.at (hex l.width l.n))
-
-abbrev pub decreases-loop-left : goal.decreases-loop-left
-decreases-loop-left l = l.left
+abbrev pub invariant-loop-i : goal.invariant-loop-i
+invariant-loop-i l =
+    (l.at + l.width ≤ length l.out) × (sets l.out l.at (hex l.i l.rest) ≡ sets l.initial.out l.at (hex l.width l.n))

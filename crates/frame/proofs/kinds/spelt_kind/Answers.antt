@@ -1,7 +1,7 @@
 -- Each arm has its two digits (`named`, `named_op`); two digits that no arm has spell no number of the table (`not_spelt`).
-use mathlib.Core.Path.{refl}
+use Prim.Native.Nat.{◌+◌, ◌*◌}
+use mathlib.Core.Path.{◌≡◌, refl}
 use mathlib.Core.Bool.{true, false}
-use mathlib.Core.Logic.{inl, inr}
 use native.Mathlib.Omega.{arith}
 use Rattle.model.specs.Frames.{widths}
 use Rattle.digits.specs.Digits.{value_of}
@@ -48,15 +48,14 @@ pub returns-in_default : goal.returns-in_default
 unfolding widths
 returns-in_default c =
     let x = c.args in
-    let not = c.in_default.in_default-own.rest in
     let other = not_spelt x.high x.low (omega arith) (omega arith) in
     λ h l. simp (
-      other 0 1 (omega arith) (omega arith) refl not.0.0.0.0.0.1 h l,
-      other 0 2 (omega arith) (omega arith) refl (λ e. not.0.0.0.0.1 (inl e)) h l,
-      other 0 3 (omega arith) (omega arith) refl (λ e. not.0.0.0.0.1 (inr e)) h l,
-      other 0 4 (omega arith) (omega arith) refl not.0.0.0.1 h l,
-      other 1 1 (omega arith) (omega arith) refl not.0.0.1 h l,
-      other 1 2 (omega arith) (omega arith) refl (λ e. not.0.1 (inl e)) h l,
-      other 1 3 (omega arith) (omega arith) refl (λ e. not.0.1 (inr e)) h l,
-      other 2 1 (omega arith) (omega arith) refl not.1 h l,
+      other 0 1 (omega arith) (omega arith) (λ (e : 256 * x.low + x.high ≡ 12592). omega arith) h l,
+      other 0 2 (omega arith) (omega arith) (λ (e : 256 * x.low + x.high ≡ 12848). grind arith) h l,
+      other 0 3 (omega arith) (omega arith) (λ (e : 256 * x.low + x.high ≡ 13104). grind arith) h l,
+      other 0 4 (omega arith) (omega arith) (λ (e : 256 * x.low + x.high ≡ 13360). omega arith) h l,
+      other 1 1 (omega arith) (omega arith) (λ (e : 256 * x.low + x.high ≡ 12593). omega arith) h l,
+      other 1 2 (omega arith) (omega arith) (λ (e : 256 * x.low + x.high ≡ 12849). grind arith) h l,
+      other 1 3 (omega arith) (omega arith) (λ (e : 256 * x.low + x.high ≡ 13105). grind arith) h l,
+      other 2 1 (omega arith) (omega arith) (λ (e : 256 * x.low + x.high ≡ 12594). omega arith) h l,
     )

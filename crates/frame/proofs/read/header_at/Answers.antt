@@ -1,52 +1,49 @@
--- Where LF stands elsewhere, or a field is not all digits, the line has another length than its kind (`unfed`, `stopped`); else it is framed.
+-- Where LF stands elsewhere, or a field is not all digits, the line has another length than its kind; else it has these fields (`line_says`).
 use Prim.Native.Nat.{◌+◌}
 use mathlib.Core.Path.{◌≡◌, refl}
-use mathlib.Core.Bool.{true}
 use mathlib.Core.List.{[], ◌∷◌}
 use native.Mathlib.Omega.{arith}
+use Rattle.std.specs.Prelude.{Some, None}
 use Rattle.model.specs.Frames.{widths, total, one_byte, two_bytes}
-use Rattle.frame.proofs.FieldLaws.{looked, fielded, unfed, stopped, spelt_more}
+use Rattle.frame.proofs.FieldLaws.{looked, unfed, line_says}
 use Rattle.frame.specs.declared.Frame.TheVariants.{Header}
 use Rattle.frame.proofs.read.header_at.Goals as goal
 
 pub returns-then-not-feeds : goal.returns-then-not-feeds
 unfolding widths total
-returns-then-not-feeds c =
-    unfed c.args.text.now c.args.at (one_byte ∷ two_bytes ∷ one_byte ∷ []) c.requires refl c.feeds.ensures c.if-not-feeds.true refl
+returns-then-not-feeds c = unfed c.args.text.now c.args.at (one_byte ∷ two_bytes ∷ one_byte ∷ []) c.feeds.ensures refl c.if-not-feeds.true _ c.requires refl
 
-pub byte_at-inputs-requires : goal.byte_at-inputs-requires
-byte_at-inputs-requires c = omega (arith, c.feeds.ensures.room c.if-not-feeds.false)
-
-pub returns-then-inputs-ge-NO_BYTE : goal.returns-then-inputs-ge-NO_BYTE
+pub returns-in_err-inputs : goal.returns-in_err-inputs
 unfolding widths total
-returns-then-inputs-ge-NO_BYTE c =
-    stopped c.args.text.now c.args.at (one_byte ∷ two_bytes ∷ one_byte ∷ []) c.requires refl (omega (arith, c.requires.goes, c.byte_at-inputs.ensures.stops c.if-inputs-ge-NO_BYTE.true))
+returns-in_err-inputs c =
+    let a = c.args in
+    rw c.from_residual.ensures
+    (line_says a.text.now a.at (one_byte ∷ two_bytes ∷ one_byte ∷ []) c.feeds.ensures refl c.if-not-feeds.false refl None (rw (← c.byte_at.ensures, c.in_err-inputs.was)) _ c.requires refl)
 
-pub word_at-gates-requires : goal.word_at-gates-requires
-word_at-gates-requires c = omega (arith, c.feeds.ensures.room c.if-not-feeds.false)
-
-pub returns-then-gates-ge-NO_WORD : goal.returns-then-gates-ge-NO_WORD
+pub returns-in_err-gates : goal.returns-in_err-gates
 unfolding widths total
-returns-then-gates-ge-NO_WORD c =
-    stopped c.args.text.now c.args.at (one_byte ∷ two_bytes ∷ one_byte ∷ []) c.requires refl (omega (arith, c.requires.goes, c.byte_at-inputs.ensures.goes (omega arith) (c.args.at + 4) (omega arith), c.word_at-gates.ensures.stops c.if-gates-ge-NO_WORD.true))
+returns-in_err-gates c =
+    let a = c.args in
+    let gates_at : a.at + 2 + 2 ≡ a.at + 4 = omega arith in
+    rw c.from_residual-in_err-gates.ensures
+    (line_says a.text.now a.at (one_byte ∷ two_bytes ∷ one_byte ∷ []) c.feeds.ensures refl c.if-not-feeds.false refl None (rw (← c.byte_at.ensures, c.in_ok-inputs.was, gates_at, ← c.word_at.ensures, c.in_err-gates.was)) _ c.requires refl)
 
-pub byte_at-outputs-requires : goal.byte_at-outputs-requires
-byte_at-outputs-requires c = omega (arith, c.feeds.ensures.room c.if-not-feeds.false)
-
-pub returns-then-outputs-ge-NO_BYTE : goal.returns-then-outputs-ge-NO_BYTE
+pub returns-in_err-outputs : goal.returns-in_err-outputs
 unfolding widths total
-returns-then-outputs-ge-NO_BYTE c =
-    stopped c.args.text.now c.args.at (one_byte ∷ two_bytes ∷ one_byte ∷ []) c.requires refl (omega (arith, c.requires.goes, c.byte_at-inputs.ensures.goes (omega arith) (c.args.at + 4) (omega arith), c.word_at-gates.ensures.goes (omega arith) (c.args.at + 8) (omega arith), c.byte_at-outputs.ensures.stops c.if-outputs-ge-NO_BYTE.true))
+returns-in_err-outputs c =
+    let a = c.args in
+    let gates_at : a.at + 2 + 2 ≡ a.at + 4 = omega arith in
+    let outputs_at : a.at + 4 + 4 ≡ a.at + 8 = omega arith in
+    rw c.from_residual-in_err-outputs.ensures
+    (line_says a.text.now a.at (one_byte ∷ two_bytes ∷ one_byte ∷ []) c.feeds.ensures refl c.if-not-feeds.false refl None (rw (← c.byte_at.ensures, c.in_ok-inputs.was, gates_at, ← c.word_at.ensures, c.in_ok-gates.was, outputs_at, ← c.byte_at-2.ensures, c.in_err-outputs.was)) _ c.requires refl)
 
 pub returns : goal.returns
 unfolding widths total
 returns c =
-    let at = c.args.at in
-    let fed : c.feeds.result ≡ true = c.if-not-feeds.false in
-    let f = c.feeds.ensures in
-    let r1 = c.byte_at-inputs in
-    let r2 = c.word_at-gates in
-    let r3 = c.byte_at-outputs in
-    let room = f.room fed in
-    let spelt = spelt_more (at + 4) (two_bytes ∷ one_byte ∷ []) (r2.result ∷ r3.result ∷ []) r1.ensures (omega arith) (omega arith) (spelt_more (at + 8) (one_byte ∷ []) (r3.result ∷ []) r2.ensures (omega arith) (omega arith) (spelt_more (at + 10) [] [] r3.ensures (omega arith) (omega arith) refl)) in
-    looked c.args.text.now at (Header r1.result r2.result r3.result) (fielded c.args.text.now at (one_byte ∷ two_bytes ∷ one_byte ∷ []) c.requires refl (r1.result ∷ r2.result ∷ r3.result ∷ []) refl f fed refl spelt) (omega arith)
+    let a = c.args in
+    let gates_at : a.at + 2 + 2 ≡ a.at + 4 = omega arith in
+    let outputs_at : a.at + 4 + 4 ≡ a.at + 8 = omega arith in
+    looked a.text.now a.at (Header c.in_ok-inputs.inputs c.in_ok-gates.gates c.in_ok-outputs.outputs)
+    (line_says a.text.now a.at (one_byte ∷ two_bytes ∷ one_byte ∷ []) c.feeds.ensures refl c.if-not-feeds.false refl (Some (c.in_ok-inputs.inputs ∷ c.in_ok-gates.gates ∷ c.in_ok-outputs.outputs ∷ []))
+    (rw (← c.byte_at.ensures, c.in_ok-inputs.was, gates_at, ← c.word_at.ensures, c.in_ok-gates.was, outputs_at, ← c.byte_at-2.ensures, c.in_ok-outputs.was)) _ c.requires refl)
+    (omega arith)

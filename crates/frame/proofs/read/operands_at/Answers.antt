@@ -1,46 +1,36 @@
--- Where LF stands elsewhere, or a field is not all digits, the line has another length than its kind (`unfed`, `stopped`); else it has these fields.
+-- Where LF stands elsewhere, or a field is not all digits, the line has another length than its kind; else it has these fields (`line_says`).
 use Prim.Native.Nat.{◌+◌}
 use mathlib.Core.Path.{◌≡◌, refl}
-use mathlib.Core.Bool.{true}
 use mathlib.Core.List.{[], ◌∷◌}
 use native.Mathlib.Omega.{arith}
+use Rattle.std.specs.Prelude.{Some, None}
 use Rattle.model.specs.Frames.{total, two_bytes}
-use Rattle.frame.proofs.FieldLaws.{fielded, unfed, stopped, spelt_more}
+use Rattle.frame.proofs.FieldLaws.{unfed, line_says}
 use Rattle.frame.proofs.read.operands_at.Goals as goal
 
 pub returns-then-not-feeds : goal.returns-then-not-feeds
 unfolding total
-returns-then-not-feeds c =
-    let a = c.args in
-    λ _ k w. unfed a.text.now a.at (two_bytes ∷ two_bytes ∷ []) k w c.feeds.ensures c.if-not-feeds.true refl
+returns-then-not-feeds c = unfed c.args.text.now c.args.at (two_bytes ∷ two_bytes ∷ []) c.feeds.ensures refl c.if-not-feeds.true
 
-pub word_at-x-requires : goal.word_at-x-requires
-word_at-x-requires c = omega (arith, c.feeds.ensures.room c.if-not-feeds.false)
-
-pub returns-then-x-ge-NO_WORD : goal.returns-then-x-ge-NO_WORD
+pub returns-in_err-x : goal.returns-in_err-x
 unfolding total
-returns-then-x-ge-NO_WORD c =
+returns-in_err-x c =
     let a = c.args in
-    λ _ k w. stopped a.text.now a.at (two_bytes ∷ two_bytes ∷ []) k w (omega (arith, k.goes, c.word_at-x.ensures.stops c.if-x-ge-NO_WORD.true))
+    rw c.from_residual.ensures
+    (line_says a.text.now a.at (two_bytes ∷ two_bytes ∷ []) c.feeds.ensures refl c.if-not-feeds.false refl None (rw (← c.word_at.ensures, c.in_err-x.was)))
 
-pub word_at-y-requires : goal.word_at-y-requires
-word_at-y-requires c = omega (arith, c.feeds.ensures.room c.if-not-feeds.false)
-
-pub returns-then-y-ge-NO_WORD : goal.returns-then-y-ge-NO_WORD
+pub returns-in_err-y : goal.returns-in_err-y
 unfolding total
-returns-then-y-ge-NO_WORD c =
+returns-in_err-y c =
     let a = c.args in
-    λ _ k w. stopped a.text.now a.at (two_bytes ∷ two_bytes ∷ []) k w (omega (arith, k.goes, c.word_at-x.ensures.goes (omega arith) (a.at + 6) (omega arith), c.word_at-y.ensures.stops c.if-y-ge-NO_WORD.true))
+    let y_at : a.at + 2 + 4 ≡ a.at + 6 = omega arith in
+    rw c.from_residual-in_err-y.ensures
+    (line_says a.text.now a.at (two_bytes ∷ two_bytes ∷ []) c.feeds.ensures refl c.if-not-feeds.false refl None (rw (← c.word_at.ensures, c.in_ok-x.was, y_at, ← c.word_at-2.ensures, c.in_err-y.was)))
 
 pub returns : goal.returns
 unfolding total
 returns c =
     let a = c.args in
-    let at = a.at in
-    let f = c.feeds in
-    let r1 = c.word_at-x in
-    let r2 = c.word_at-y in
-    let fed : f.result ≡ true = c.if-not-feeds.false in
-    let room = f.ensures.room fed in
-    let spelt = spelt_more (at + 6) (two_bytes ∷ []) (r2.result ∷ []) r1.ensures (omega arith) (omega arith) (spelt_more (at + 10) [] [] r2.ensures (omega arith) (omega arith) refl) in
-    λ _ k w. fielded a.text.now at (two_bytes ∷ two_bytes ∷ []) k w (r1.result ∷ r2.result ∷ []) refl f.ensures fed refl spelt
+    let y_at : a.at + 2 + 4 ≡ a.at + 6 = omega arith in
+    line_says a.text.now a.at (two_bytes ∷ two_bytes ∷ []) c.feeds.ensures refl c.if-not-feeds.false refl (Some (c.in_ok-x.x ∷ c.in_ok-y.y ∷ []))
+    (rw (← c.word_at.ensures, c.in_ok-x.was, y_at, ← c.word_at-2.ensures, c.in_ok-y.was))

@@ -1,62 +1,60 @@
--- Where LF stands elsewhere, or a field is not all digits, the line has another length than its kind (`unfed`, `stopped`); else it is framed.
+-- Where LF stands elsewhere, or a field is not all digits, the line has another length than its kind; else it has these fields (`line_says`).
 use Prim.Native.Nat.{◌+◌}
 use mathlib.Core.Path.{◌≡◌, refl}
-use mathlib.Core.Bool.{true}
 use mathlib.Core.List.{[], ◌∷◌}
 use native.Mathlib.Omega.{arith}
-use borrow.Author.Tests.{not-false}
+use Rattle.std.specs.Prelude.{Some, None}
 use Rattle.model.specs.Frames.{widths, total, one_byte, two_bytes, three_bytes}
-use Rattle.frame.proofs.FieldLaws.{looked, fielded, unfed, stopped, spelt_more}
+use Rattle.frame.proofs.FieldLaws.{looked, unfed, line_says}
 use Rattle.frame.specs.declared.Frame.TheVariants.{Report}
 use Rattle.frame.proofs.read.report_at.Goals as goal
 
 pub returns-then-not-feeds : goal.returns-then-not-feeds
 unfolding widths total
-returns-then-not-feeds c =
-    unfed c.args.text.now c.args.at (one_byte ∷ three_bytes ∷ two_bytes ∷ two_bytes ∷ []) c.requires refl c.feeds.ensures c.if-not-feeds.true refl
+returns-then-not-feeds c = unfed c.args.text.now c.args.at (one_byte ∷ three_bytes ∷ two_bytes ∷ two_bytes ∷ []) c.feeds.ensures refl c.if-not-feeds.true _ c.requires refl
 
-pub byte_at-refusal-requires : goal.byte_at-refusal-requires
-byte_at-refusal-requires c = omega (arith, c.feeds.ensures.room c.if-not-feeds.false)
-
-pub returns-then-refusal-ge-NO_BYTE : goal.returns-then-refusal-ge-NO_BYTE
+pub returns-in_err-refusal : goal.returns-in_err-refusal
 unfolding widths total
-returns-then-refusal-ge-NO_BYTE c =
-    stopped c.args.text.now c.args.at (one_byte ∷ three_bytes ∷ two_bytes ∷ two_bytes ∷ []) c.requires refl (omega (arith, c.requires.goes, c.byte_at-refusal.ensures.stops c.if-refusal-ge-NO_BYTE.true))
+returns-in_err-refusal c =
+    let a = c.args in
+    rw c.from_residual.ensures
+    (line_says a.text.now a.at (one_byte ∷ three_bytes ∷ two_bytes ∷ two_bytes ∷ []) c.feeds.ensures refl c.if-not-feeds.false refl None (rw (← c.byte_at.ensures, c.in_err-refusal.was)) _ c.requires refl)
 
-pub triple_at-line-requires : goal.triple_at-line-requires
-triple_at-line-requires c = omega (arith, c.feeds.ensures.room c.if-not-feeds.false)
-
-pub returns-then-line-ge-NO_TRIPLE : goal.returns-then-line-ge-NO_TRIPLE
+pub returns-in_err-line : goal.returns-in_err-line
 unfolding widths total
-returns-then-line-ge-NO_TRIPLE c =
-    stopped c.args.text.now c.args.at (one_byte ∷ three_bytes ∷ two_bytes ∷ two_bytes ∷ []) c.requires refl (omega (arith, c.requires.goes, c.byte_at-refusal.ensures.goes (omega arith) (c.args.at + 4) (omega arith), c.triple_at-line.ensures.stops c.if-line-ge-NO_TRIPLE.true))
+returns-in_err-line c =
+    let a = c.args in
+    let line_at : a.at + 2 + 2 ≡ a.at + 4 = omega arith in
+    rw c.from_residual-in_err-line.ensures
+    (line_says a.text.now a.at (one_byte ∷ three_bytes ∷ two_bytes ∷ two_bytes ∷ []) c.feeds.ensures refl c.if-not-feeds.false refl None (rw (← c.byte_at.ensures, c.in_ok-refusal.was, line_at, ← c.triple_at.ensures, c.in_err-line.was)) _ c.requires refl)
 
-pub word_at-steps-requires : goal.word_at-steps-requires
-word_at-steps-requires c = omega (arith, c.feeds.ensures.room c.if-not-feeds.false)
-
-pub returns-then-steps-ge-NO_WORD : goal.returns-then-steps-ge-NO_WORD
+pub returns-in_err-steps : goal.returns-in_err-steps
 unfolding widths total
-returns-then-steps-ge-NO_WORD c =
-    stopped c.args.text.now c.args.at (one_byte ∷ three_bytes ∷ two_bytes ∷ two_bytes ∷ []) c.requires refl (omega (arith, c.requires.goes, c.byte_at-refusal.ensures.goes (omega arith) (c.args.at + 4) (omega arith), c.triple_at-line.ensures.goes (omega arith) (c.args.at + 10) (omega arith), c.word_at-steps.ensures.stops c.if-steps-ge-NO_WORD.true))
+returns-in_err-steps c =
+    let a = c.args in
+    let line_at : a.at + 2 + 2 ≡ a.at + 4 = omega arith in
+    let steps_at : a.at + 4 + 6 ≡ a.at + 10 = omega arith in
+    rw c.from_residual-in_err-steps.ensures
+    (line_says a.text.now a.at (one_byte ∷ three_bytes ∷ two_bytes ∷ two_bytes ∷ []) c.feeds.ensures refl c.if-not-feeds.false refl None (rw (← c.byte_at.ensures, c.in_ok-refusal.was, line_at, ← c.triple_at.ensures, c.in_ok-line.was, steps_at, ← c.word_at.ensures, c.in_err-steps.was)) _ c.requires refl)
 
-pub word_at-clauses-requires : goal.word_at-clauses-requires
-word_at-clauses-requires c = omega (arith, c.feeds.ensures.room c.if-not-feeds.false)
-
-pub returns-then-clauses-ge-NO_WORD : goal.returns-then-clauses-ge-NO_WORD
+pub returns-in_err-clauses : goal.returns-in_err-clauses
 unfolding widths total
-returns-then-clauses-ge-NO_WORD c =
-    stopped c.args.text.now c.args.at (one_byte ∷ three_bytes ∷ two_bytes ∷ two_bytes ∷ []) c.requires refl (omega (arith, c.requires.goes, c.byte_at-refusal.ensures.goes (omega arith) (c.args.at + 4) (omega arith), c.triple_at-line.ensures.goes (omega arith) (c.args.at + 10) (omega arith), c.word_at-steps.ensures.goes (omega arith) (c.args.at + 14) (omega arith), c.word_at-clauses.ensures.stops c.if-clauses-ge-NO_WORD.true))
+returns-in_err-clauses c =
+    let a = c.args in
+    let line_at : a.at + 2 + 2 ≡ a.at + 4 = omega arith in
+    let steps_at : a.at + 4 + 6 ≡ a.at + 10 = omega arith in
+    let clauses_at : a.at + 10 + 4 ≡ a.at + 14 = omega arith in
+    rw c.from_residual-in_err-clauses.ensures
+    (line_says a.text.now a.at (one_byte ∷ three_bytes ∷ two_bytes ∷ two_bytes ∷ []) c.feeds.ensures refl c.if-not-feeds.false refl None (rw (← c.byte_at.ensures, c.in_ok-refusal.was, line_at, ← c.triple_at.ensures, c.in_ok-line.was, steps_at, ← c.word_at.ensures, c.in_ok-steps.was, clauses_at, ← c.word_at-2.ensures, c.in_err-clauses.was)) _ c.requires refl)
 
 pub returns : goal.returns
 unfolding widths total
 returns c =
-    let at = c.args.at in
-    let fed : c.feeds.result ≡ true = not-false _ c.if-not-feeds.false-raw in
-    let f = c.feeds.ensures in
-    let r1 = c.byte_at-refusal in
-    let r2 = c.triple_at-line in
-    let r3 = c.word_at-steps in
-    let r4 = c.word_at-clauses in
-    let room = f.room fed in
-    let spelt = spelt_more (at + 4) (three_bytes ∷ two_bytes ∷ two_bytes ∷ []) (r2.result ∷ r3.result ∷ r4.result ∷ []) r1.ensures (omega arith) (omega arith) (spelt_more (at + 10) (two_bytes ∷ two_bytes ∷ []) (r3.result ∷ r4.result ∷ []) r2.ensures (omega arith) (omega arith) (spelt_more (at + 14) (two_bytes ∷ []) (r4.result ∷ []) r3.ensures (omega arith) (omega arith) (spelt_more (at + 18) [] [] r4.ensures (omega arith) (omega arith) refl))) in
-    looked c.args.text.now at (Report r1.result r2.result r3.result r4.result) (fielded c.args.text.now at (one_byte ∷ three_bytes ∷ two_bytes ∷ two_bytes ∷ []) c.requires refl (r1.result ∷ r2.result ∷ r3.result ∷ r4.result ∷ []) refl f fed refl spelt) (omega arith)
+    let a = c.args in
+    let line_at : a.at + 2 + 2 ≡ a.at + 4 = omega arith in
+    let steps_at : a.at + 4 + 6 ≡ a.at + 10 = omega arith in
+    let clauses_at : a.at + 10 + 4 ≡ a.at + 14 = omega arith in
+    looked a.text.now a.at (Report c.in_ok-refusal.refusal c.in_ok-line.field-0 c.in_ok-steps.steps c.in_ok-clauses.clauses)
+    (line_says a.text.now a.at (one_byte ∷ three_bytes ∷ two_bytes ∷ two_bytes ∷ []) c.feeds.ensures refl c.if-not-feeds.false refl (Some (c.in_ok-refusal.refusal ∷ c.in_ok-line.field-0 ∷ c.in_ok-steps.steps ∷ c.in_ok-clauses.clauses ∷ []))
+    (rw (← c.byte_at.ensures, c.in_ok-refusal.was, line_at, ← c.triple_at.ensures, c.in_ok-line.was, steps_at, ← c.word_at.ensures, c.in_ok-steps.was, clauses_at, ← c.word_at-2.ensures, c.in_ok-clauses.was)) _ c.requires refl)
+    (omega arith)

@@ -1,56 +1,46 @@
--- Where LF stands elsewhere, or a field is not all digits, the line has another length than its kind (`unfed`, `stopped`); else it has these fields.
+-- Where LF stands elsewhere, or a field is not all digits, the line has another length than its kind; else it has these fields (`line_says`).
 use Prim.Native.Nat.{◌+◌}
 use mathlib.Core.Path.{◌≡◌, refl}
-use mathlib.Core.Bool.{true}
 use mathlib.Core.List.{[], ◌∷◌}
 use native.Mathlib.Omega.{arith}
+use Rattle.std.specs.Prelude.{Some, None}
 use Rattle.model.specs.Frames.{total, two_bytes}
-use Rattle.frame.proofs.FieldLaws.{fielded, unfed, stopped, spelt_more}
+use Rattle.frame.proofs.FieldLaws.{unfed, line_says}
 use Rattle.frame.proofs.read.resolve_at.Goals as goal
 
 pub returns-then-not-feeds : goal.returns-then-not-feeds
 unfolding total
-returns-then-not-feeds c =
-    let a = c.args in
-    λ _ k w. unfed a.text.now a.at (two_bytes ∷ two_bytes ∷ two_bytes ∷ []) k w c.feeds.ensures c.if-not-feeds.true refl
+returns-then-not-feeds c = unfed c.args.text.now c.args.at (two_bytes ∷ two_bytes ∷ two_bytes ∷ []) c.feeds.ensures refl c.if-not-feeds.true
 
-pub word_at-first-requires : goal.word_at-first-requires
-word_at-first-requires c = omega (arith, c.feeds.ensures.room c.if-not-feeds.false)
-
-pub returns-then-first-ge-NO_WORD : goal.returns-then-first-ge-NO_WORD
+pub returns-in_err-first : goal.returns-in_err-first
 unfolding total
-returns-then-first-ge-NO_WORD c =
+returns-in_err-first c =
     let a = c.args in
-    λ _ k w. stopped a.text.now a.at (two_bytes ∷ two_bytes ∷ two_bytes ∷ []) k w (omega (arith, k.goes, c.word_at-first.ensures.stops c.if-first-ge-NO_WORD.true))
+    rw c.from_residual.ensures
+    (line_says a.text.now a.at (two_bytes ∷ two_bytes ∷ two_bytes ∷ []) c.feeds.ensures refl c.if-not-feeds.false refl None (rw (← c.word_at.ensures, c.in_err-first.was)))
 
-pub word_at-second-requires : goal.word_at-second-requires
-word_at-second-requires c = omega (arith, c.feeds.ensures.room c.if-not-feeds.false)
-
-pub returns-then-second-ge-NO_WORD : goal.returns-then-second-ge-NO_WORD
+pub returns-in_err-second : goal.returns-in_err-second
 unfolding total
-returns-then-second-ge-NO_WORD c =
+returns-in_err-second c =
     let a = c.args in
-    λ _ k w. stopped a.text.now a.at (two_bytes ∷ two_bytes ∷ two_bytes ∷ []) k w (omega (arith, k.goes, c.word_at-first.ensures.goes (omega arith) (a.at + 6) (omega arith), c.word_at-second.ensures.stops c.if-second-ge-NO_WORD.true))
+    let second_at : a.at + 2 + 4 ≡ a.at + 6 = omega arith in
+    rw c.from_residual-in_err-second.ensures
+    (line_says a.text.now a.at (two_bytes ∷ two_bytes ∷ two_bytes ∷ []) c.feeds.ensures refl c.if-not-feeds.false refl None (rw (← c.word_at.ensures, c.in_ok-first.was, second_at, ← c.word_at-2.ensures, c.in_err-second.was)))
 
-pub word_at-variable-requires : goal.word_at-variable-requires
-word_at-variable-requires c = omega (arith, c.feeds.ensures.room c.if-not-feeds.false)
-
-pub returns-then-variable-ge-NO_WORD : goal.returns-then-variable-ge-NO_WORD
+pub returns-in_err-variable : goal.returns-in_err-variable
 unfolding total
-returns-then-variable-ge-NO_WORD c =
+returns-in_err-variable c =
     let a = c.args in
-    λ _ k w. stopped a.text.now a.at (two_bytes ∷ two_bytes ∷ two_bytes ∷ []) k w (omega (arith, k.goes, c.word_at-first.ensures.goes (omega arith) (a.at + 6) (omega arith), c.word_at-second.ensures.goes (omega arith) (a.at + 10) (omega arith), c.word_at-variable.ensures.stops c.if-variable-ge-NO_WORD.true))
+    let second_at : a.at + 2 + 4 ≡ a.at + 6 = omega arith in
+    let variable_at : a.at + 6 + 4 ≡ a.at + 10 = omega arith in
+    rw c.from_residual-in_err-variable.ensures
+    (line_says a.text.now a.at (two_bytes ∷ two_bytes ∷ two_bytes ∷ []) c.feeds.ensures refl c.if-not-feeds.false refl None (rw (← c.word_at.ensures, c.in_ok-first.was, second_at, ← c.word_at-2.ensures, c.in_ok-second.was, variable_at, ← c.word_at-3.ensures, c.in_err-variable.was)))
 
 pub returns : goal.returns
 unfolding total
 returns c =
     let a = c.args in
-    let at = a.at in
-    let f = c.feeds in
-    let r1 = c.word_at-first in
-    let r2 = c.word_at-second in
-    let r3 = c.word_at-variable in
-    let fed : f.result ≡ true = c.if-not-feeds.false in
-    let room = f.ensures.room fed in
-    let spelt = spelt_more (at + 6) (two_bytes ∷ two_bytes ∷ []) (r2.result ∷ r3.result ∷ []) r1.ensures (omega arith) (omega arith) (spelt_more (at + 10) (two_bytes ∷ []) (r3.result ∷ []) r2.ensures (omega arith) (omega arith) (spelt_more (at + 14) [] [] r3.ensures (omega arith) (omega arith) refl)) in
-    λ _ k w. fielded a.text.now at (two_bytes ∷ two_bytes ∷ two_bytes ∷ []) k w (r1.result ∷ r2.result ∷ r3.result ∷ []) refl f.ensures fed refl spelt
+    let second_at : a.at + 2 + 4 ≡ a.at + 6 = omega arith in
+    let variable_at : a.at + 6 + 4 ≡ a.at + 10 = omega arith in
+    line_says a.text.now a.at (two_bytes ∷ two_bytes ∷ two_bytes ∷ []) c.feeds.ensures refl c.if-not-feeds.false refl (Some (c.in_ok-first.first ∷ c.in_ok-second.second ∷ c.in_ok-variable.variable ∷ []))
+    (rw (← c.word_at.ensures, c.in_ok-first.was, second_at, ← c.word_at-2.ensures, c.in_ok-second.was, variable_at, ← c.word_at-3.ensures, c.in_ok-variable.was))

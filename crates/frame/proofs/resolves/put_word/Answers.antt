@@ -1,18 +1,7 @@
 -- The four values are spelt at once, and the bytes stand where `hex` has them.
-use native.Mathlib.Omega.{arith}
-use lib.ListN.{length-set}
+use Rattle.std.proofs.Common.{rules}
 use Rattle.frame.proofs.PutLaws.{word_stored}
-use borrow.Author.Rules.{rules}
 use Rattle.frame.proofs.resolves.put_word.Goals as goal
-
-pub bounds-out-at-2 : goal.bounds-out-at-2
-bounds-out-at-2 c = simp length-set (omega arith)
-
-pub bounds-out-at-3 : goal.bounds-out-at-3
-bounds-out-at-3 c = simp length-set (omega arith)
-
-pub bounds-out-at-4 : goal.bounds-out-at-4
-bounds-out-at-4 c = simp length-set (omega arith)
 
 pub returns : goal.returns
 returns c =

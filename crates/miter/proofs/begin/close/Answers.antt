@@ -10,7 +10,7 @@ use borrow.Author.Rules.{rules}
 use Rattle.miter.proofs.begin.close.Goals as goal
 
 pub returns-then-count-room : goal.returns-then-count-room
-returns-then-count-room c a b held n v = begin_short c.args.room a b c.args.count n (omega arith)
+returns-then-count-room c a b held n v = rw c.at.ensures (begin_short c.args.room a b c.args.count n (omega arith))
 
 pub returns : goal.returns
 returns c a b held n v =

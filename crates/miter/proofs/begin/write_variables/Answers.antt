@@ -33,9 +33,11 @@ returns-then-room-count c w =
     let u = c.variable-d in
     let d = u.result in
     let i : ℕ = l.v - (1 + a.pair.inputs) in
-    let e : l.v ≡ 1 + a.pair.inputs + i = omega arith in
-    variable_short w l.v i l.count d e (omega arith) (u.ensures w i e) (l.invariant.5 w i e).1 a.room
-    (omega (arith, c.clause_count.ensures d.n.code d.x.code d.y.code))
+    let e : l.v ≡ 1 + a.pair.inputs + i = omega arith in (
+      c.at.ensures,
+      variable_short w l.v i l.count d e (omega arith) (u.ensures w i e) (l.invariant.5 w i e).1 a.room
+          (omega (arith, c.clause_count.ensures d.n.code d.x.code d.y.code)),
+    )
 
 pub push_gate-count-requires : goal.push_gate-count-requires
 push_gate-count-requires c =
@@ -56,7 +58,7 @@ loop-v-preserved c =
     let d = c.variable-d.result in
     let g = c.push_gate-count in
     let k = c.clause_count.ensures d.n.code d.x.code d.y.code in
-    let all = c.variables-end.ensures in
+    let all = c.variables-v-end.ensures in
     let same : length g.new.store ≡ length l.store = search rules in
     let n = g.ensures.0 in (
       omega arith,
@@ -76,5 +78,5 @@ loop-v-preserved c =
 pub returns : goal.returns
 returns c w =
     let l = c.loop-v in
-    let h = l.invariant.5 w (gate_count c.args.pair) (omega (arith, c.variables-end.ensures)) in
+    let h = l.invariant.5 w (gate_count c.args.pair) (omega (arith, c.variables-v-end.ensures)) in
     (h.0, h.1, l.invariant.3)

@@ -1,5 +1,5 @@
 -- The invariant: of whatever two lists stand in the text, the store holds the first clause and those of the variables before v.
-use Prim.Native.Nat.{ℕ, ◌+◌, ◌-◌, ◌≤◌}
+use Prim.Native.Nat.{ℕ, ◌+◌, ◌≤◌}
 use mathlib.Core.Path.{◌≡◌}
 use lib.ListN.{length}
 use Rattle.steps.specs.Progress.{Held}
@@ -9,11 +9,8 @@ use Rattle.miter.proofs.begin.write_variables.Given as goal
 abbrev pub invariant-loop-v : goal.invariant-loop-v
 invariant-loop-v l =
     (1 + l.pair.inputs ≤ l.v)
-    × (l.v ≤ l.end)
+    × (l.v ≤ l.v-end)
     × (1 ≤ l.count)
     × (l.count ≤ l.room)
     × (length l.store ≡ length l.initial.store)
     × ((w : PairStands l.text l.pair) (i : ℕ) → l.v ≡ 1 + l.pair.inputs + i → Held l.store (gates_up_to w.left w.right i) × (length (gates_up_to w.left w.right i) ≡ l.count))
-
-abbrev pub decreases-loop-v : goal.decreases-loop-v
-decreases-loop-v l = l.end - l.v

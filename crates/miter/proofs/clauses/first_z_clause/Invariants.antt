@@ -1,5 +1,5 @@
 -- The invariant: the number behind the clauses of the gates below i, from which the count goes on over the others.
-use Prim.Native.Nat.{◌+◌, ◌-◌, ◌*◌, ◌≤◌}
+use Prim.Native.Nat.{◌+◌, ◌*◌, ◌≤◌}
 use mathlib.Core.Path.{◌≡◌}
 use lib.ListN.{drop}
 use Rattle.model.specs.Miter.{gates_of}
@@ -10,6 +10,3 @@ use Rattle.miter.proofs.clauses.first_z_clause.Given as goal
 abbrev pub invariant-loop-i : goal.invariant-loop-i
 invariant-loop-i l =
     (l.i ≤ l.gates) × (l.next ≤ 2 + 4 * l.i) × ((w : PairStands l.text l.pair) → first_z_clause w.left w.right ≡ behind l.next (drop l.i (gates_of w.left w.right)))
-
-abbrev pub decreases-loop-i : goal.decreases-loop-i
-decreases-loop-i l = l.gates - l.i

@@ -5,4 +5,4 @@ use Rattle.miter.proofs.variables.defined.Goals as goal
 pub returns : goal.returns
 returns c reads-low =
     let a = c.args in
-    gate_defines a.gate a.v _ _ _ c.positive.ensures c.of.ensures c.of-2.ensures c.requires reads-low
+    gate_defines a.gate a.v _ _ _ c.positive.ensures c.from.ensures c.from-2.ensures c.requires reads-low

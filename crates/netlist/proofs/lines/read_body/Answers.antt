@@ -1,18 +1,15 @@
 -- The gates' answer and then the outputs', put together to the body's (`ListLaws`).
+use Rattle.std.proofs.lemmas.Result.{err_from_is_err_and}
 use Rattle.netlist.proofs.ListLaws.{gates_refuse, body_says}
 use Rattle.netlist.proofs.lines.read_body.Goals as goal
 
-pub returns-in_default : goal.returns-in_default
-returns-in_default c =
+pub returns-in_err-next : goal.returns-in_err-next
+returns-in_err-next c =
     let a = c.args in
-    let gates = c.read_gates-behind in
-    rw c.in_default.is (gates_refuse a.text.now a.cursor a.counts _ (rw c.in_default.is at gates.ensures))
-
-pub read_outputs-requires : goal.read_outputs-requires
-read_outputs-requires c = ((rw c.in-At.is at c.read_gates-behind.ensures).inside, c.requires.3)
+    let p = err_from_is_err_and c.from_residual.result c.from_residual.ensures.1 in
+    rw (p.1, p.2) (gates_refuse a.text.now a.cursor a.counts _ c.in_err-next.ensures)
 
 pub returns : goal.returns
 returns c =
     let a = c.args in
-    let gates = c.read_gates-behind in
-    body_says a.text.now a.cursor a.counts _ (rw c.in-At.is at gates.ensures) c.read_outputs.result c.read_outputs.ensures
+    body_says a.text.now a.cursor a.counts _ c.in_ok-next.ensures c.read_outputs.result c.read_outputs.ensures

@@ -1,17 +1,15 @@
 -- Nothing is left, or what is there is refused (`LineLaws`).
-use mathlib.Core.Path.{refl}
-use Rattle.netlist.proofs.LineLaws.{end_none, end_other}
-use borrow.Enum.Refused.{opened}
+use Rattle.std.proofs.lemmas.Result.{err_from_is_err_and}
+use Rattle.netlist.proofs.LineLaws.{end_none, end_other, end_fault}
 use Rattle.netlist.proofs.lines.read_end.Goals as goal
 
-pub returns-in_default : goal.returns-in_default
-returns-in_default c =
-    let a = c.args in
-    let one = c.read_line-got in
-    rw c.missing.ensures (end_other a.text.now a.cursor one.result one.ensures.reads (opened c.in_default.in_default-own.keys2))
+pub returns-in_err-read_line : goal.returns-in_err-read_line
+returns-in_err-read_line c =
+    let p = err_from_is_err_and c.from_residual.result c.from_residual.ensures.1 in
+    rw (p.1, p.2) (end_fault c.args.text.now c.args.cursor c.in_err-read_line.ensures.reads)
 
-pub returns : goal.returns
-returns c =
-    let a = c.args in
-    let one = c.read_line-got in
-    (refl, end_none a.text.now a.cursor one.result one.ensures.reads c.in-End.is)
+pub returns-in-None : goal.returns-in-None
+returns-in-None c = end_none c.args.text.now c.args.cursor (rw c.in-None.is at c.in_ok-read_line.ensures.reads)
+
+pub returns-in-Some : goal.returns-in-Some
+returns-in-Some c = rw c.at.ensures (end_other c.args.text.now c.args.cursor (rw c.in-Some.is at c.in_ok-read_line.ensures.reads))

@@ -1,4 +1,5 @@
 -- The invariant: the row goes as far as i (`PlainLaws`).
+use mathlib.Core.Path.{◌≡◌}
 use native.Mathlib.Omega.{arith}
 use borrow.Author.Rules.{rules}
 use borrow.Author.Tests.{not-true, not-false}
@@ -33,4 +34,6 @@ loop-i-preserved c =
     (l.invariant.0, l.invariant.1, row_more a.text.now a.at a.first a.count l.i l.invariant.2 (omega arith) (rw (not-false c.plain_gate.result c.if-not-plain_gate.false-raw) at c.plain_gate.ensures))
 
 pub returns : goal.returns
-returns c = (c.loop-i.invariant.2, λ h. absurd (omega arith))
+returns c =
+    let end : c.loop-i.i ≡ c.args.count = omega arith in
+    (rw end at c.loop-i.invariant.2, λ h. absurd (omega arith))

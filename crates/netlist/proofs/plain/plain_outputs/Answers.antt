@@ -1,4 +1,5 @@
 -- The invariant: the row goes as far as i (`PlainLaws`).
+use mathlib.Core.Path.{◌≡◌}
 use native.Mathlib.Omega.{arith}
 use borrow.Author.Rules.{rules}
 use borrow.Author.Tests.{not-true, not-false}
@@ -33,4 +34,6 @@ loop-i-preserved c =
     (l.invariant.0, outputs_one_more a.text.now a.at a.nets a.count l.i l.invariant.1 (omega arith) (rw (not-false c.plain_output.result c.if-not-plain_output.false-raw) at c.plain_output.ensures))
 
 pub returns : goal.returns
-returns c = (c.loop-i.invariant.1, λ h. absurd (omega arith))
+returns c =
+    let end : c.loop-i.i ≡ c.args.count = omega arith in
+    (rw end at c.loop-i.invariant.1, λ h. absurd (omega arith))

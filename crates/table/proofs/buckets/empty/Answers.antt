@@ -7,5 +7,5 @@ use Rattle.table.proofs.buckets.empty.Goals as goal
 pub returns : goal.returns
 returns c =
     let a = c.args in
-    let z = c.clear_numbers in
+    let z = c.clear in
     index_none z.new.numbers a.nets (λ h i. cleared_at a.work.now z.new.numbers _ h z.ensures (omega (arith, c.requires)))

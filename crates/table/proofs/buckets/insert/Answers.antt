@@ -1,15 +1,8 @@
 -- The head of the bucket is the net's next, and the net its new head; then the row is stored (`inserted`).
 use native.Mathlib.Omega.{arith}
-use lib.ListN.{length-set}
 use Rattle.table.specs.Rows.{entry_of}
 use Rattle.table.proofs.BucketLaws.{inserted}
 use Rattle.table.proofs.buckets.insert.Goals as goal
-
-pub bounds-work-v : goal.bounds-work-v
-bounds-work-v c = simp length-set (omega (arith, c.requires.room, c.requires.inside))
-
-pub enter-requires : goal.enter-requires
-enter-requires c = simp length-set (omega (arith, c.requires.room, c.requires.inside))
 
 pub returns : goal.returns
 returns c =

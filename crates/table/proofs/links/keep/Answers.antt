@@ -1,29 +1,21 @@
--- Four numbers stored in turn are those of a net put behind the others (`kept`); rows in front stay.
-use Prim.Native.Nat.{ℕ, ◌+◌, ◌*◌}
-use mathlib.Core.Path.{sym, subst}
-use mathlib.Core.List.{List, [], ◌∷◌, ◌++◌}
-use native.Mathlib.Omega.{arith}
-use lib.ListN.{length-set}
+-- Four numbers put in are those of a net behind the others (`kept`); rows in front stay.
+use Rattle.std.proofs.Common.{◌≡◌, ◌+◌, ◌*◌, List, [], ◌∷◌, ◌++◌, ℕ, length, subst, rules, arith}
 use Rattle.table.specs.Rows.{HoldsTable}
 use Rattle.table.specs.Links.{link_width, Keeps}
-use Rattle.table.proofs.LinkLaws.{four_stored, kept, rows_stay}
+use Rattle.table.proofs.PlaceLaws.{put_all}
+use Rattle.table.proofs.LinkLaws.{kept, rows_stay}
 use Rattle.table.proofs.links.keep.Goals as goal
 
-pub bounds-work-at-2 : goal.bounds-work-at-2
-bounds-work-at-2 c = simp length-set (omega (arith, c.requires))
-
-pub bounds-work-at-3 : goal.bounds-work-at-3
-bounds-work-at-3 c = simp length-set (omega (arith, c.requires))
-
-pub bounds-work-at-4 : goal.bounds-work-at-4
-bounds-work-at-4 c = simp length-set (omega (arith, c.requires))
-
-pub returns : goal.returns
-returns c =
+pub returns-clause-keeps : goal.returns-clause-keeps
+returns-clause-keeps c links ns k n f =
     let a = c.args in
-    let p = a.start + link_width * a.v in
-    let e = sym (four_stored a.work.now p a.numbers) in record {
-      keeps = λ links ns k n f.
-          subst (λ (w : List ℕ). Keeps w a.start (links ++ (ns ∷ []))) e (kept a.work.now a.start a.v a.numbers c.requires links ns k n f);
-      stays = λ t h s. subst (λ (w : List ℕ). HoldsTable w t) e (rows_stay a.work.now a.start a.v a.numbers c.requires t h s);
-    }
+    let four : length a.numbers ≡ link_width = search rules in
+    subst (λ (w : List ℕ). Keeps w a.start (links ++ (ns ∷ []))) (put_all c.loop-i.work a.work.now a.numbers (a.start + link_width * a.v) c.loop-i.i (omega arith) c.loop-i.invariant)
+    (kept a.work.now a.start a.v a.numbers four c.requires links ns k n f)
+
+pub returns-clause-stays : goal.returns-clause-stays
+returns-clause-stays c t h s =
+    let a = c.args in
+    let four : length a.numbers ≡ link_width = search rules in
+    subst (λ (w : List ℕ). HoldsTable w t) (put_all c.loop-i.work a.work.now a.numbers (a.start + link_width * a.v) c.loop-i.i (omega arith) c.loop-i.invariant)
+    (rows_stay a.work.now a.start a.v a.numbers four c.requires t h s)

@@ -1,8 +1,0 @@
--- Each arm knows its case of the answer.
-use Rattle.cec_abi.proofs.replies.word_reply.Goals as goal
-
-pub returns-in-Word : goal.returns-in-Word
-returns-in-Word c = rw c.in-Word.is
-
-pub returns-in-Refused : goal.returns-in-Refused
-returns-in-Refused c = rw c.in-Refused.is
