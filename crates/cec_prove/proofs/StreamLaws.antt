@@ -90,11 +90,11 @@ module _ (stream : List ℕ) where
         cleared = w;
       }
 
-  pub report_printed : (number line : ℕ) (p : Printed) {out work : List ℕ} → p.lists ≡ 0 → p.behind ≡ 19 → due_to stream ≡ refused number line → work ≡ zeros working_numbers
-      → out ≡ written_frame (report number line 0 0) proof_bytes → Prints stream p out work
-  report_printed number line p {out} none long e w o =
+  pub report_printed : (number n line : ℕ) (p : Printed) {out work : List ℕ} → p.lists ≡ 0 → p.behind ≡ 19 → due_to stream ≡ refused number line → work ≡ zeros working_numbers
+      → n ≡ number → out ≡ written_frame (report n line 0 0) proof_bytes → Prints stream p out work
+  report_printed number n line p {out} none long e w h o =
       let frame = line_of (report number line 0 0) in
-      let stands : out ≡ filled proof_bytes frame = o ∙ report_filled number line proof_bytes (has_digits number line e) (omega arith) in
+      let stands : out ≡ filled proof_bytes frame = rw h at o ∙ report_filled number line proof_bytes (has_digits number line e) (omega arith) in
       let whole : take p.behind out ≡ frame = rw stands (take_at frame (zeros (proof_bytes - length frame)) p.behind (report_length number line 0 0 ∙ sym long)) in
       record {
         printed = rw (e, none) whole;

@@ -28,9 +28,9 @@ pub accepted_report : (c : Accepted) (a : Answer State) → ok c ≡ counted_of 
 accepted_report c (ok s) e = ap (λ (c : Accepted). report 0 0 c.steps c.clauses) (ok_injective e)
 accepted_report c (refused number line) e = absurd (refused_not_ok (sym e))
 
-pub refused_report : (number line : ℕ) (a : Answer State) → refused number line ≡ counted_of a → report number line 0 0 ≡ report_of a
-refused_report number line (ok s) e = absurd (refused_not_ok e)
-refused_report number line (refused m l) e = cc
+pub refused_report : (number n line : ℕ) (a : Answer State) → n ≡ number → refused number line ≡ counted_of a → report n line 0 0 ≡ report_of a
+refused_report number n line (ok s) h e = absurd (refused_not_ok e)
+refused_report number n line (refused m l) h e = cc
 
 -- ---- what there are digits for
 

@@ -120,18 +120,18 @@ pub joins : (room line : ℕ) (s : State) (r : Clause) → length s.clauses < ro
 unfolding added guard joined
 joins room line s r h = rw (le-leb (length s.clauses + 1) room (omega arith))
 
-pub joined_tracks : {store : List ℕ} {p : Progress} {s : State} (r : Clause) (at : ℕ) → Tracks store p s → Proper r
+pub joined_tracks : {store : List ℕ} {p : Progress} {s : State} {empty : Bool} (r : Clause) (at : ℕ) → Tracks store p s → Proper r → empty ≡ is_empty r
     → at ≡ clause_width * p.clauses → clause_width * p.clauses + clause_width ≤ length store
-    → Tracks (sets store at (stored r)) (record { clauses = p.clauses + 1; next = p.next; steps = p.steps + 1; empty = is_empty r }) (joined r s)
+    → Tracks (sets store at (stored r)) (record { clauses = p.clauses + 1; next = p.next; steps = p.steps + 1; empty = empty }) (joined r s)
 unfolding joined
-joined_tracks {store} {p} {s} r at t h is room =
+joined_tracks {store} {p} {s} r at t h e is room =
     let n : at ≡ clause_width * length s.clauses = omega (arith, t.clauses) in
     record {
       held = rw n (held_more store s.clauses r t.held h (omega (arith, t.clauses)));
       clauses = length-append s.clauses (r ∷ []) ∙ omega (arith, t.clauses);
       next = t.next;
       steps = omega (arith, t.steps);
-      empty = refl;
+      empty = sym e;
     }
 
 -- what the test tells

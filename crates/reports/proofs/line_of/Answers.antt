@@ -15,4 +15,4 @@ pub returns-in-Ok : goal.returns-in-Ok
 returns-in-Ok c = rw c.in-Ok.is (λ a e. c.report_line.ensures ∙ ap line_of (accepted_report _ a e))
 
 pub returns-in-Err : goal.returns-in-Err
-returns-in-Err c = rw c.in-Err.is (λ a e. (rw c.number.ensures at c.report_line-in-Err.ensures) ∙ ap line_of (refused_report _ _ a e))
+returns-in-Err c = rw c.in-Err.is (λ a e. c.report_line-in-Err.ensures ∙ ap line_of (refused_report _ _ _ a (omega arith) e))

@@ -2,7 +2,9 @@
 use Prim.Native.Nat.{◌+◌, ◌*◌}
 use native.Mathlib.Omega.{arith}
 use lib.Seq.{length-sets}
-use mathlib.Core.Path.{refl}
+use mathlib.Core.Path.{◌≡◌, refl}
+use mathlib.Core.Bool.{Bool}
+use borrow.Author.Rules.{rules}
 use Rattle.model.specs.Limits.{clause_width}
 use Rattle.model.specs.Clauses.{is_empty}
 use Rattle.steps.specs.Progress.{Tracks}
@@ -25,16 +27,15 @@ returns c s line t =
     let w = c.requires in
     let r = a.resolvent in
     let g = c.save in
-    let q = joined_tracks r (clause_width * a.p.clauses) t g.ensures.proper refl (omega (arith, w.0.numbers_for_all, w.0.clauses)) in
-    let q' : Tracks g.new.store (record { clauses = a.p.clauses + 1; next = a.p.next; steps = a.p.steps + 1; empty = is_empty r }) (joined r s) =
-    rw g.ensures.stores q in
-    rw c.is_empty.ensures (
+    let q : (b : Bool) → b ≡ is_empty r → Tracks g.new.store (record { clauses = a.p.clauses + 1; next = a.p.next; steps = a.p.steps + 1; empty = b }) (joined r s) =
+    λ b e. rw g.ensures.stores (joined_tracks r (clause_width * a.p.clauses) t g.ensures.proper e refl (omega (arith, w.0.numbers_for_all, w.0.clauses))) in
+    (
       joined r s,
       joins a.room line s r (omega (arith, w.0.clauses, t.clauses)),
-      q',
+      q _ (search rules),
       record {
         state = joined r s;
-        tracks = q';
+        tracks = q _ (search rules);
         numbers_for_all = rw (g.ensures.stores, length-sets) w.0.numbers_for_all;
         most = w.0.most;
         clauses = omega (arith, w.0.clauses);

@@ -17,4 +17,4 @@ pub returns-in-Err : goal.returns-in-Err
 returns-in-Err c =
     let h = c.in-Err.ensures in
     let long : length c.prove_stream.new.out ≡ proof_bytes = search rules in
-    report_printed c.args.stream.now _ _ _ (omega arith) (omega arith) h.0 h.1 (rw (c.number.ensures, long) at c.write_frame.ensures.leaves)
+    report_printed c.args.stream.now _ _ _ _ (omega arith) (omega arith) h.0 h.1 (omega arith) (rw long at c.write_frame.ensures.leaves)
