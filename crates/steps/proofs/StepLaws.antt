@@ -8,6 +8,7 @@ use lib.ListN.{length, length-append}
 use lib.Dec.{leb, ltb}
 use lib.Seq.{sets}
 use borrow.Author.Tests.{ltb-true, leb-true, lt-ltb, le-ltb, le-leb, lt-leb}
+use Rattle.std.specs.Prelude.{Ok}
 use Rattle.model.specs.Limits.{highest_variable, clause_width}
 use Rattle.model.specs.Answers.{Answer, guard, bind}
 use Rattle.model.specs.Answers.Answer.{ok, refused}
@@ -24,7 +25,7 @@ use Rattle.frame.specs.declared.Op.{Op}
 use Rattle.frame.specs.declared.Op.TheVariants.{And, Xor}
 use Rattle.frame.specs.Frames.{op_of}
 use Rattle.steps.specs.declared.Progress.{Progress}
-use Rattle.steps.specs.Progress.{clauses_of, extension, Held, Tracks}
+use Rattle.steps.specs.Progress.{clauses_of, extension, Held, Tracks, Says, stepped_of}
 use Rattle.steps.proofs.HeldLaws.{proper_at, held_more}
 
 -- ---- extend
@@ -133,6 +134,12 @@ joined_tracks {store} {p} {s} r at t h e is room =
       steps = omega (arith, t.steps);
       empty = sym e;
     }
+
+-- the progress after a resolve
+pub counted : {room : ℕ} {a : Answer State} {store : List ℕ} (line : ℕ) (p q : Progress) (empty : Bool)
+    → q.empty ≡ empty → q.next ≡ p.next → q.clauses ≡ p.clauses + 1 → q.steps ≡ p.steps + 1
+    → Says room a store (stepped_of p line (Ok empty)) → Says room a store (Ok q)
+counted line p q empty e n k m h = rw (e, n, k, m) h
 
 -- what the test tells
 pub number : (n k : ℕ) → ltb 0 k && leb k n ≡ true → (1 ≤ k) × (k ≤ n)

@@ -28,8 +28,7 @@ returns c s line t =
     let r = a.resolvent in
     let g = c.save in
     let q : (b : Bool) → b ≡ is_empty r → Tracks g.new.store (record { clauses = a.p.clauses + 1; next = a.p.next; steps = a.p.steps + 1; empty = b }) (joined r s) =
-    λ b e. rw g.ensures.stores (joined_tracks r (clause_width * a.p.clauses) t g.ensures.proper e refl (omega (arith, w.0.numbers_for_all, w.0.clauses))) in
-    (
+    λ b e. rw g.ensures.stores (joined_tracks r (clause_width * a.p.clauses) t g.ensures.proper e refl (omega (arith, w.0.numbers_for_all, w.0.clauses))) in (
       joined r s,
       joins a.room line s r (omega (arith, w.0.clauses, t.clauses)),
       q _ (search rules),
