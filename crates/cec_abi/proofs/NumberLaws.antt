@@ -2,21 +2,23 @@
 use Prim.Native.Nat.{ℕ, ◌^◌, ◌<◌}
 use mathlib.Core.Path.{◌≡◌, refl}
 use mathlib.Core.List.{List, [], ◌∷◌}
-use mathlib.Core.Bool.{Bool, true, false, cond, and-false, true≢false}
+use mathlib.Core.Bool.{Bool, true, false, and-false, true≢false}
 use native.Mathlib.Omega.{arith}
 use lib.Dec.{eqb, ltb}
 use lib.ListN.{length, get_or, take}
-use borrow.Author.Tests.{lt-ltb, eqb-true}
+use borrow.Author.Tests.{lt-ltb, le-ltb, eqb-true}
 use Rattle.model.specs.Answers.{guard}
 use Rattle.model.specs.Answers.Answer.{ok, refused}
 use Rattle.model.specs.Frames.{widths, is_kind, report_kind, two_bytes}
 use Rattle.frame.specs.declared.Op.{Op}
 use Rattle.frame.specs.declared.Op.TheVariants.{And, Xor}
 use Rattle.frame.specs.Kinds.{operands_kind}
-use Rattle.std.specs.Prelude.{Ok, Err}
+use Rattle.std.specs.Prelude.{Result, Ok, Err}
+use Rattle.std.specs.Result.{OkIff}
+use Rattle.std.specs.declared.num.TryFromIntError.{TryFromIntError}
 use Rattle.refusal.specs.declared.Reason.TheVariants.{Frame as Wrong}
 use Rattle.refusal.specs.declared.Refusal.{Refusal}
-use Rattle.cec_abi.specs.Calls.{any_number, limits, fit, frame_from, field}
+use Rattle.cec_abi.specs.Calls.{any_number, limits, fit, frame_from, FieldOf}
 
 -- ---- a number against the digits of its field
 
@@ -24,22 +26,19 @@ use Rattle.cec_abi.specs.Calls.{any_number, limits, fit, frame_from, field}
 abbrev pub wrong : Refusal
 wrong = record { reason = Wrong; line = 0 }
 
+-- what `field` says of a number and its answer
+abbrev Fielded : ℕ → ℕ → Result ℕ Refusal → Type 0
+Fielded width n r = (t : Result ℕ TryFromIntError) × OkIff t (n < 16 ^ width) n × FieldOf t r
+
 -- it fits, and is the field
-pub fits : (width n : ℕ) {x : ℕ} → Ok x ≡ field width n → (x ≡ n) × (ltb n (16 ^ width) ≡ true)
-fits width n {x} e = go (ltb n (16 ^ width)) refl e
-  where
-    go : (b : Bool) → ltb n (16 ^ width) ≡ b → Ok x ≡ cond b (Ok n) (Err wrong) → (x ≡ n) × (ltb n (16 ^ width) ≡ true)
-    go true t e = (cc, t)
-    go false t e = cc
+pub fits : (width n : ℕ) {x : ℕ} → Fielded width n (Ok x) → (x ≡ n) × (ltb n (16 ^ width) ≡ true)
+fits width n (Ok y, h, e) = (cc, lt-ltb n (16 ^ width) h.0)
+fits width n (Err y, h, e) = cc
 
 -- or it does not, and is refused by 3 at line 0
-pub misfits : (width n : ℕ) {r : Refusal} → Err r ≡ field width n → (r ≡ wrong) × (ltb n (16 ^ width) ≡ false)
-misfits width n {r} e = go (ltb n (16 ^ width)) refl e
-  where
-    go : (b : Bool) → ltb n (16 ^ width) ≡ b → Err r ≡ cond b (Ok n) (Err wrong)
-        → (r ≡ wrong) × (ltb n (16 ^ width) ≡ false)
-    go true t e = cc
-    go false t e = (cc, t)
+pub misfits : (width n : ℕ) {r : Refusal} → Fielded width n (Err r) → (r ≡ wrong) × (ltb n (16 ^ width) ≡ false)
+misfits width n (Ok y, h, e) = cc
+misfits width n (Err y, h, e) = (cc, le-ltb n (16 ^ width) (omega (arith, h)))
 
 pub in_any : (n : ℕ) → n < 2 ^ 64 → ltb n (16 ^ any_number) ≡ true
 in_any n h = lt-ltb n (16 ^ any_number) h

@@ -1,9 +1,13 @@
 -- The writer's call: a frame from a kind and numbers, and what becomes of it; and the engine's, whose promise leaves the lines free.
 use Rattle.std.specs.Prelude.{ℕ, ◌^◌, ◌≡◌, Bool, true, false, ◌&&◌, cond, List, [], ◌∷◌, eqb, ltb, length, take, Result, Ok, Err}
+use Rattle.std.specs.Result.{MatchResult}
 use Rattle.model.specs.Answers.{Answer, guard, bind, zeros}
 use Rattle.model.specs.Answers.Answer.{ok, refused}
 use Rattle.refusal.specs.declared.Reason.TheVariants.{Frame as Wrong}
 use Rattle.refusal.specs.declared.Refusal.{Refusal}
+use Rattle.refusal.specs.Answers.{answer_by}
+use Rattle.frame.specs.declared.Op.{Op}
+use Rattle.frame.specs.Kinds.{operands_kind}
 use Rattle.cec_abi.specs.Replies.{number_reply}
 use Rattle.model.specs.Frames.{Frame, widths, is_kind, report_kind, one_byte, two_bytes, write_frame, written_frame}
 
@@ -22,15 +26,20 @@ fit [] numbers = true
 fit (w ∷ ws) [] = false
 fit (w ∷ ws) (n ∷ numbers) = ltb n (16 ^ w) && fit ws numbers
 
--- a number as a field of so many digits: 3 at line 0 if it has more
-abbrev pub field : ℕ → ℕ → Result ℕ Refusal
-field width n = cond (ltb n (16 ^ width)) (Ok n) (Err (record { reason = Wrong; line = 0 }))
+-- a number that has a field's type, or 3 at line 0
+abbrev pub FieldOf : {A E : Type 0} → Result A E → Result A Refusal → Type 0
+FieldOf t r = MatchResult t (λ a. r ≡ Ok a) (λ e. r ≡ Err (record { reason = Wrong; line = 0 }))
 
 -- The frame of a kind with as many of the numbers as it has fields; 3 at line 0 if the kind is outside the table or a field does not fit.
 unfoldable pub frame_from : ℕ → List ℕ → Answer Frame
 frame_from kind numbers =
     guard (is_kind (limits kind) && fit (limits kind) numbers) 3 0
     (ok (record { kind = kind; fields = take (length (limits kind)) numbers }))
+
+-- two numbers as the operands of a gate, or of an extension
+abbrev pub Operands : ℕ → ℕ → Result (ℕ × ℕ) Refusal → Type 0
+Operands x y r = (extends : Bool) (op : Op)
+    → answer_by (λ (p : ℕ × ℕ). record { kind = operands_kind extends op; fields = p.0 ∷ p.1 ∷ [] }) r ≡ frame_from (operands_kind extends op) (x ∷ y ∷ [])
 
 -- the reply of writing a frame, where there is one
 abbrev pub write_answer : Answer Frame → ℕ → Answer ℕ

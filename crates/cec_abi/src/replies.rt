@@ -2,19 +2,17 @@
 ghost use Rattle.std.specs.Prelude.{◌≡◌};
 ghost use Rattle.refusal.specs.Answers.{number_of, answer_of};
 ghost use Rattle.frame.specs.Frames.{frame_of, decoded_of};
-ghost use Rattle.netlist.specs.Replies.{counts_of, pair_of};
 ghost use Rattle.checker.specs.Verdicts.{counted_of};
 ghost use Rattle.model.specs.Answers.{Answer};
 ghost use Rattle.model.specs.Answers.Answer.{ok};
-ghost use Rattle.model.specs.Nets.{Netlist};
-ghost use Rattle.model.specs.Lists.{Lists};
 ghost use Rattle.model.specs.Steps.{State};
 ghost use Rattle.cec_abi.specs.Replies.{frame_reply, number_reply, list_reply, lists_reply, check_reply};
 
 use checker::Accepted;
 use frame::Frame;
 use frame::fields::fields_of;
-use netlist::{Counts, Pair};
+use listing::GateList;
+use netlist::pair::Pair;
 use refusal::Refusal;
 
 fn number(refusal: Refusal) -> u64
@@ -45,7 +43,8 @@ pub fn frame_reply(answer: Result<Frame, Refusal>) -> [u64; 7]
     }
 }
 
-// The reply for a length, a word or a number of lines.
+// The reply for a length, a word or a number of lines. Each reply spells the zeros behind a refusal: a function for all sizes would be longer than
+// they are.
 pub fn number_reply(answer: Result<u64, Refusal>) -> [u64; 3]
     ensures { result ≡ number_reply (answer_of answer) }
 {
@@ -55,12 +54,13 @@ pub fn number_reply(answer: Result<u64, Refusal>) -> [u64; 3]
     }
 }
 
-// The reply of every reading of a list that comes to these counts or to this refusal.
-pub fn list_reply(answer: Result<Counts, Refusal>) -> [u64; 5]
-    ensures { (a : Answer Netlist) → answer_of answer ≡ counts_of a → result ≡ list_reply a }
+// The reply for a list that was read.
+pub fn list_reply(answer: Result<GateList<'_>, Refusal>) -> [u64; 5]
+    ensures { result ≡ list_reply (answer_of answer.entry) }
 {
     match answer {
-        Ok(counts) => {
+        Ok(list) => {
+            let counts = list.counts();
             let inputs = counts.inputs as u64;
             let gates = counts.gates as u64;
             let outputs = counts.outputs as u64;
@@ -71,15 +71,16 @@ pub fn list_reply(answer: Result<Counts, Refusal>) -> [u64; 5]
 }
 
 // The same for two lists.
-pub fn lists_reply(answer: Result<Pair, Refusal>) -> [u64; 6]
-    ensures { (a : Answer Lists) → answer_of answer ≡ pair_of a → result ≡ lists_reply a }
+pub fn lists_reply(answer: Result<Pair<'_>, Refusal>) -> [u64; 6]
+    ensures { result ≡ lists_reply (answer_of answer.entry) }
 {
     match answer {
         Ok(pair) => {
-            let inputs = pair.inputs as u64;
-            let left = pair.left as u64;
-            let right = pair.right as u64;
-            let outputs = pair.outputs as u64;
+            let counts = pair.left.counts();
+            let inputs = counts.inputs as u64;
+            let left = counts.gates as u64;
+            let right = pair.right.counts().gates as u64;
+            let outputs = counts.outputs as u64;
             [0, 0, inputs, left, right, outputs]
         }
         Err(refusal) => [number(refusal), refusal.line as u64, 0, 0, 0, 0],

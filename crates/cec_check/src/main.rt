@@ -4,18 +4,21 @@
 mod report; // a stream's report
 
 use report::report;
-use streams::{complain, print, read_stream, room};
+use streams::{STREAM_ROOM, answer_stream, print, room};
 
+// Name, buffer, answer and output differ from the other programs'; what they share is in `streams`.
 fn main(rt: HostRuntime) {
-    let mut stream = room();
-    let Ok(n) = read_stream(&rt, &mut stream) else {
-        complain(&rt, b"cec_check: standard input was not read to its end\n");
-        return;
-    };
-    let line = report(&stream[..n]);
-    print(
+    let mut stream = room::<STREAM_ROOM>();
+    answer_stream(
         &rt,
-        &line,
-        b"cec_check: standard output was not written to its end\n",
+        &mut stream,
+        b"cec_check: standard input was not read to its end\n",
+        |stream| {
+            print(
+                &rt,
+                &[&report(stream)],
+                b"cec_check: standard output was not written to its end\n",
+            )
+        },
     );
 }

@@ -4,31 +4,25 @@
 
 mod report; // a stream's report
 
-ghost use Rattle.std.specs.Prelude.{◌≡◌, length};
-
 use report::report;
-use streams::{complain, print, read_stream};
+use streams::{answer_stream, print, room};
 
-// One byte more than a stream may have, so that a longer one is seen without being read to its end.
-fn room() -> [u8; 4194305]
-    ensures { 4194305 ≡ length result }
-{
-    [0; 4194305]
-}
+// One byte more than a stream may have.
+const LARGE_ROOM: usize = 4194305;
 
+// Name, buffer, answer and output differ from the other programs'; what they share is in `streams`.
 fn main(rt: HostRuntime) {
-    let mut stream = room();
-    let Ok(n) = read_stream(&rt, &mut stream) else {
-        complain(
-            &rt,
-            b"cec_check_large: standard input was not read to its end\n",
-        );
-        return;
-    };
-    let line = report(&stream[..n]);
-    print(
+    let mut stream = room::<LARGE_ROOM>();
+    answer_stream(
         &rt,
-        &line,
-        b"cec_check_large: standard output was not written to its end\n",
+        &mut stream,
+        b"cec_check_large: standard input was not read to its end\n",
+        |stream| {
+            print(
+                &rt,
+                &[&report(stream)],
+                b"cec_check_large: standard output was not written to its end\n",
+            )
+        },
     );
 }

@@ -3,7 +3,7 @@ use Prim.Native.Nat.{ℕ, ◌≤◌, ◌<◌}
 use mathlib.Core.Path.{◌≡◌, sym, ◌∙◌}
 use mathlib.Core.List.{List, [], ◌∷◌}
 use native.Mathlib.Omega.{arith}
-use lib.ListN.{length, length-append, set}
+use lib.ListN.{length, length-append, set, take}
 use lib.Seq.{sets}
 use Rattle.model.specs.Limits.{highest_line, stream_bytes}
 use Rattle.model.specs.Answers.{zeros}
@@ -15,7 +15,7 @@ use Rattle.laws.specs.Digits.{length_hex}
 use Rattle.laws.specs.Places.{evaluate_placed}
 use Rattle.laws.specs.Streams.{over_limit, within_limit, limited_placed, placed_line}
 use Rattle.frame.proofs.WriteLaws.{sets_append, fill}
-use Rattle.printed.specs.Printing.{Prints}
+use Rattle.printed.specs.Printing.{Whole}
 use Rattle.printed.proofs.PrintLaws.{filled_line}
 use Rattle.cec_eval.specs.Program.{word_digits, working_bytes, evaluated, word_line}
 
@@ -37,10 +37,11 @@ module _ (stream : List ℕ) (pattern : ℕ) where
 
 -- ---- a word's line
 
-pub word_printed : (word : ℕ) (out : List ℕ) → out ≡ sets (zeros 19) 0 (hex word_digits word) → Prints (record { line = set out word_digits line_feed; len = 17 }) (word_line word)
+pub word_printed : (word : ℕ) (out : List ℕ) → out ≡ sets (zeros 19) 0 (hex word_digits word)
+    → Whole (set out word_digits line_feed) 17 × (take 17 (set out word_digits line_feed) ≡ word_line word)
 word_printed word out e =
     let digits = length_hex word_digits word in
     let bytes : length (word_line word) ≡ 17 = rw length-append (omega (arith, digits)) in
     let behind = sets_append (zeros 19) 0 (hex word_digits word) (line_feed ∷ []) in
     let stored : set out word_digits line_feed ≡ sets (zeros 19) 0 (word_line word) = rw (behind, digits, e) in
-    record { line = filled_line 19 (word_line word) _ (omega arith) (stored ∙ fill 19 (word_line word) (omega arith)); len = sym bytes }
+    filled_line (word_line word) (omega arith) (stored ∙ fill 19 (word_line word) (omega arith)) (sym bytes)

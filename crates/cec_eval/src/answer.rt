@@ -1,7 +1,6 @@
 // A stream's answer: the word of its list on a pattern, or the refusal, as the one line that the program prints.
 ghost use Rattle.std.specs.Prelude.{◌≡◌};
 ghost use Rattle.refusal.specs.Answers.{answer_of};
-ghost use Rattle.printed.specs.Printing.{Prints};
 ghost use Rattle.cec_eval.specs.Program.{evaluated, program, word_line};
 
 use evaluator::evaluate;
@@ -30,20 +29,17 @@ fn evaluate_stream(stream: &[u8], pattern: u64) -> Result<u64, Refusal>
 
 // A word's digits and LF.
 fn word_line(word: u64) -> Printed
-    ensures { Prints result (word_line word) }
+    ensures { result ≡ word_line word }
 {
     let mut line = [0u8; REPORT_BYTES];
     put_hex(&mut line, 0, word as usize, WORD_DIGITS);
-    line[WORD_DIGITS] = 10;
-    Printed {
-        line,
-        len: WORD_DIGITS + 1,
-    }
+    line[WORD_DIGITS] = b'\n';
+    Printed::of(line, WORD_DIGITS + 1)
 }
 
 // The line that the program prints for a stream and a pattern.
 pub fn answer(stream: &[u8], pattern: u64) -> Printed
-    ensures { Prints result (program stream.now pattern) }
+    ensures { result ≡ program stream.now pattern }
 {
     match evaluate_stream(stream, pattern) {
         Ok(word) => word_line(word),

@@ -8,7 +8,7 @@ mod pattern; // the argument's pattern
 use answer::answer;
 use pattern::{PATTERN_DIGITS, pattern_of};
 use std::env::{Env, FillError};
-use streams::{complain, print, read_stream, room};
+use streams::{STREAM_ROOM, answer_stream, complain, print, room};
 
 // The pattern of the one argument. An argument that is longer than a pattern is none.
 fn argument(rt: &HostRuntime) -> Option<u64> {
@@ -22,18 +22,7 @@ fn argument(rt: &HostRuntime) -> Option<u64> {
     pattern_of(&digits[..n])
 }
 
-// Prints the answer to a stream.
-fn run(rt: &HostRuntime, stream: &[u8], pattern: u64) {
-    let answered = answer(stream, pattern);
-    let line = answered.line;
-    let len = answered.len;
-    print(
-        rt,
-        &line[..len],
-        b"cec_eval: standard output was not written to its end\n",
-    );
-}
-
+// Name, buffer, answer and output differ from the other programs'; what they share is in `streams`.
 fn main(rt: HostRuntime) {
     let Some(pattern) = argument(&rt) else {
         complain(
@@ -42,10 +31,17 @@ fn main(rt: HostRuntime) {
         );
         return;
     };
-    let mut stream = room();
-    let Ok(n) = read_stream(&rt, &mut stream) else {
-        complain(&rt, b"cec_eval: standard input was not read to its end\n");
-        return;
-    };
-    run(&rt, &stream[..n], pattern);
+    let mut stream = room::<STREAM_ROOM>();
+    answer_stream(
+        &rt,
+        &mut stream,
+        b"cec_eval: standard input was not read to its end\n",
+        |stream| {
+            print(
+                &rt,
+                &[answer(stream, pattern).bytes()],
+                b"cec_eval: standard output was not written to its end\n",
+            )
+        },
+    );
 }

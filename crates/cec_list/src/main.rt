@@ -5,25 +5,21 @@
 mod answer; // a stream's answer
 
 use answer::answer;
-use streams::{complain, print, read_stream, room};
+use streams::{STREAM_ROOM, answer_stream, print, room};
 
-// Prints the answer to a stream.
-fn run(rt: &HostRuntime, stream: &[u8]) {
-    let answered = answer(stream);
-    let line = answered.line;
-    let len = answered.len;
-    print(
-        rt,
-        &line[..len],
-        b"cec_list: standard output was not written to its end\n",
-    );
-}
-
+// Name, buffer, answer and output differ from the other programs'; what they share is in `streams`.
 fn main(rt: HostRuntime) {
-    let mut stream = room();
-    let Ok(n) = read_stream(&rt, &mut stream) else {
-        complain(&rt, b"cec_list: standard input was not read to its end\n");
-        return;
-    };
-    run(&rt, &stream[..n]);
+    let mut stream = room::<STREAM_ROOM>();
+    answer_stream(
+        &rt,
+        &mut stream,
+        b"cec_list: standard input was not read to its end\n",
+        |stream| {
+            print(
+                &rt,
+                &[answer(stream).bytes()],
+                b"cec_list: standard output was not written to its end\n",
+            )
+        },
+    );
 }

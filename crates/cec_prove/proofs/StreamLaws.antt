@@ -2,9 +2,9 @@
 -- report, which has digits for the line of every refusal that is due.
 use Prim.Native.Nat.{ℕ, ◌+◌, ◌-◌, ◌*◌, ◌≤◌, ◌<◌}
 use mathlib.Core.Path.{◌≡◌, refl, sym, ap, ◌∙◌}
-use mathlib.Core.List.{List, ◌++◌}
+use mathlib.Core.List.{List, [], ◌++◌}
 use native.Mathlib.Omega.{arith}
-use lib.ListN.{length, take, length-append, length-replicate, length-take}
+use lib.ListN.{length, take, length-append, length-replicate}
 use Rattle.std.specs.Prelude.{Result, Ok, Err}
 use lib.Seq.{take_at, take-length}
 use borrow.Author.Tests.{le-leb}
@@ -12,7 +12,7 @@ use Rattle.model.specs.Limits.{stream_bytes, highest_line, proof_line_bytes}
 use Rattle.model.specs.Answers.{Answer, guard, bind, zeros, filled}
 use Rattle.model.specs.Answers.Answer.{ok, refused}
 use Rattle.model.specs.Lists.{Lists, read_lists}
-use Rattle.model.specs.Frames.{stated_line, line_of, write_frame, written_frame}
+use Rattle.model.specs.Frames.{Frame, stated_line, line_of, write_frame, written_frame}
 use Rattle.model.specs.Engine.{line_bound, working, provable, Outcome, Engine}
 use Rattle.laws.specs.Answers.{ok_injective, refused_not_ok}
 use Rattle.laws.specs.Reading.{lists_good}
@@ -22,7 +22,6 @@ use Rattle.frame.specs.Frames.{report}
 use Rattle.frame.proofs.WriteLaws.{report_length}
 use Rattle.refusal.specs.declared.Refusal.{Refusal}
 use Rattle.refusal.specs.Answers.{answer_of}
-use Rattle.cec_prove.specs.declared.evidence.Printed.{Printed}
 use Rattle.cec_prove.specs.Streams.{same_forms, due_to, proof_bytes, working_numbers, Answered, Prints}
 
 -- the engine's refusal is the one that is due
@@ -79,34 +78,28 @@ module _ (stream : List ℕ) where
       let placed = rw (enough (read_lists stream) refl) at (provable_placed stream proof_bytes working_numbers) in
       placed_line (limited_placed stream_bytes stream _ (λ short. omega arith) placed) e
 
-  pub proof_printed : (n : ℕ) (p : Printed) {out work : List ℕ} → p.lists ≡ length stream → p.behind ≡ proof_line_bytes * n → Answered stream (Ok n) out work → Prints stream p out work
-  proof_printed n p {out} all long (l, proof, e, v, fits, o, w) =
-      let whole : take p.behind out ≡ proof = rw o (take_at proof (zeros (proof_bytes - length proof)) p.behind (v.bytes ∙ sym long)) in
+  pub proof_printed : (n behind : ℕ) {lists out work : List ℕ} → lists ≡ stream → behind ≡ proof_line_bytes * n → Answered stream (Ok n) out work
+      → Prints stream lists behind out work
+  proof_printed n behind {lists} {out} all long (l, proof, e, v, fits, o, w) =
+      let whole : take behind out ≡ proof = rw o (take_at proof (zeros (proof_bytes - length proof)) behind (v.bytes ∙ sym long)) in
       record {
-        printed = rw e (n, proof, v, rw (all, take-length stream, whole));
-        of_stream = omega (arith, all);
+        printed = rw e (n, proof, v, rw (all, whole));
+        of_stream = rw (all, take-length stream);
         of_out = omega (arith, long, fits);
         zeros_behind = rw whole o;
         cleared = w;
       }
 
-  pub report_printed : (number n line : ℕ) (p : Printed) {out work : List ℕ} → p.lists ≡ 0 → p.behind ≡ 19 → due_to stream ≡ refused number line → work ≡ zeros working_numbers
-      → n ≡ number → out ≡ written_frame (report n line 0 0) proof_bytes → Prints stream p out work
-  report_printed number n line p {out} none long e w h o =
-      let frame = line_of (report number line 0 0) in
-      let stands : out ≡ filled proof_bytes frame = rw h at o ∙ report_filled number line proof_bytes (has_digits number line e) (omega arith) in
-      let whole : take p.behind out ≡ frame = rw stands (take_at frame (zeros (proof_bytes - length frame)) p.behind (report_length number line 0 0 ∙ sym long)) in
+  pub report_printed : (number line behind : ℕ) {frame : Frame} {lists out work : List ℕ} → lists ≡ [] → behind ≡ 19 → due_to stream ≡ refused number line → work ≡ zeros working_numbers
+      → frame ≡ report number line 0 0 → out ≡ written_frame frame proof_bytes → Prints stream lists behind out work
+  report_printed number line behind {frame} {lists} {out} none long e w h o =
+      let text = line_of (report number line 0 0) in
+      let stands : out ≡ filled proof_bytes text = rw h at o ∙ report_filled number line proof_bytes (has_digits number line e) (omega arith) in
+      let whole : take behind out ≡ text = rw stands (take_at text (zeros (proof_bytes - length text)) behind (report_length number line 0 0 ∙ sym long)) in
       record {
         printed = rw (e, none) whole;
-        of_stream = omega (arith, none);
+        of_stream = rw none refl;
         of_out = omega (arith, long);
         zeros_behind = rw whole stands;
         cleared = w;
       }
-
-  -- what is printed of the buffer lies within it
-  pub within : {p : Printed} {out work : List ℕ} → Prints stream p out work → p.behind ≤ length out
-  within {p} {out} h =
-      let long = ap length h.zeros_behind ∙ length-append (take p.behind out) _ in
-      let rest = simp length-replicate at long in
-      omega (arith, h.of_out, rest, length-take p.behind out)

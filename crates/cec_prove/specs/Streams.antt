@@ -11,7 +11,6 @@ use Rattle.model.specs.Engine.{Proves}
 use Rattle.frame.specs.Frames.{report}
 use Rattle.refusal.specs.declared.Refusal.{Refusal}
 use Rattle.refusal.specs.Answers.{refused_by}
-use Rattle.cec_prove.specs.declared.evidence.Printed.{Printed}
 
 -- ---- what is due
 
@@ -48,9 +47,9 @@ Evidence stream (refused number line) printed = printed ≡ line_of (report numb
 
 -- The first bytes of the stream and the first of the buffer are the evidence. In the buffer zeros stand behind them, and the working numbers
 -- are zeros.
-pub record Prints (stream : List ℕ) (p : Printed) (out work : List ℕ) : Type 0 where
-  pub printed : Evidence stream (due_to stream) (take p.lists stream ++ take p.behind out)
-  pub of_stream : p.lists ≤ length stream
-  pub of_out : p.behind ≤ proof_bytes
-  pub zeros_behind : out ≡ filled proof_bytes (take p.behind out)
+pub record Prints (stream lists : List ℕ) (behind : ℕ) (out work : List ℕ) : Type 0 where
+  pub printed : Evidence stream (due_to stream) (lists ++ take behind out)
+  pub of_stream : lists ≡ take (length lists) stream
+  pub of_out : behind ≤ proof_bytes
+  pub zeros_behind : out ≡ filled proof_bytes (take behind out)
   pub cleared : work ≡ zeros working_numbers

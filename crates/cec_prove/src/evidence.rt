@@ -4,7 +4,7 @@ ghost use Rattle.cec_prove.specs.Streams.{Answered, Prints};
 use clearing::clear;
 use engine::prove;
 use frame::kinds::{REPORT_BYTES, RESOLVE_BYTES};
-use frame::{Frame, write_frame};
+use frame::write_frame;
 use refusal::{Reason, Refusal};
 use streams::STREAM_BYTES;
 
@@ -13,13 +13,6 @@ pub const PROOF_BYTES: usize = 503040;
 
 // Working numbers for the largest lists: 16 × (1 + 64 + 2,048).
 pub const WORKING_NUMBERS: usize = 33808;
-
-// What is printed: so many bytes of the stream, from its start, and behind them so many of the buffer, from its start.
-#[derive(Clone, Copy)]
-pub struct Printed {
-    pub lists: usize,
-    pub behind: usize,
-}
 
 // 1 for a stream that is too long, else the engine's answer.
 fn prove_stream(
@@ -36,36 +29,20 @@ fn prove_stream(
     prove(stream, out, work)
 }
 
-// The evidence for a stream. In the buffer zeros stand behind what is printed of it; the working numbers end as zeros.
-pub fn evidence(
-    stream: &[u8],
+// The evidence for a stream: these first bytes of it, and behind them so many of the buffer, from its start. In the buffer zeros stand behind
+// what is printed of it; the working numbers end as zeros.
+pub fn evidence<'a>(
+    stream: &'a [u8],
     out: &mut [u8; PROOF_BYTES],
     work: &mut [u16; WORKING_NUMBERS],
-) -> Printed
-    ensures { Prints stream.now result out.new work.new }
+) -> (&'a [u8], usize)
+    ensures { Prints stream.now result.0.now result.1 out.new work.new }
 {
     match prove_stream(stream, out, work) {
-        Ok(lines) => {
-            let behind = RESOLVE_BYTES * lines;
-            Printed {
-                lists: stream.len(),
-                behind,
-            }
-        }
+        Ok(lines) => (&stream[..], RESOLVE_BYTES * lines),
         Err(refusal) => {
-            let _ = write_frame(
-                Frame::Report {
-                    refusal: refusal.reason.number(),
-                    line: refusal.line,
-                    steps: 0,
-                    clauses: 0,
-                },
-                out,
-            );
-            Printed {
-                lists: 0,
-                behind: REPORT_BYTES,
-            }
+            let _ = write_frame(refusal.into(), out);
+            (&stream[..0], REPORT_BYTES)
         }
     }
 }

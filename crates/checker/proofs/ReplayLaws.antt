@@ -1,15 +1,15 @@
 -- The replay of a proof, by what the cursor's reader answers at a line.
-use Prim.Native.Nat.{ℕ, suc, ◌+◌}
-use mathlib.Core.Path.{◌≡◌, refl, ◌∙◌}
+use Prim.Native.Nat.{ℕ, suc, ◌+◌, ◌-◌}
+use mathlib.Core.Path.{◌≡◌, refl, sym, ◌∙◌}
 use mathlib.Core.Bool.{Bool, true, false}
 use mathlib.Core.List.{List, [], ◌∷◌}
 use native.Mathlib.Omega.{arith}
 use lib.Dec.{eqb}
-use lib.ListN.{length}
-use Rattle.std.specs.Prelude.{Ok}
+use lib.ListN.{length, drop, length-drop}
 use Rattle.model.specs.Answers.{Answer, guard, bind}
 use Rattle.model.specs.Answers.Answer.{ok, refused}
 use Rattle.model.specs.Limits.{proof_line_bytes}
+use Rattle.model.specs.Lines.{Line}
 use Rattle.model.specs.Frames as frames
 use Rattle.model.specs.Frames.{due_at, resolve_kind}
 use Rattle.model.specs.Steps.{State, step, is_step, step_of, step_at, replay}
@@ -17,38 +17,42 @@ use Rattle.model.specs.Steps.Step.{resolve}
 use Rattle.frame.specs.declared.Op.{Op}
 use Rattle.frame.specs.declared.Op.TheVariants.{And, Xor}
 use Rattle.frame.specs.declared.Frame.{Frame}
+use Rattle.frame.specs.declared.Gate.{Gate as GateLine}
+use Rattle.frame.specs.declared.Resolve.{Resolve as ResolveLine}
 use Rattle.frame.specs.declared.Frame.TheVariants.{Header, Gate, Output, Resolve, Extend, Report}
-use Rattle.frame.specs.declared.Cursor.{Cursor}
-use Rattle.frame.specs.Fields.{LineAt}
-use Rattle.frame.specs.Frames.{frame_of, first, Inside}
+use Rattle.frame.specs.declared.cursor.Cursor.{Cursor}
+use Rattle.frame.specs.Fields.{HasLine}
+use Rattle.frame.specs.Frames.{frame_of, extend_kind, first}
 use Rattle.frame.specs.Frames.First.{none, found, fault}
 use Rattle.frame.proofs.FirstLaws.{first_none, first_fault, first_found}
-use Rattle.netlist.specs.Says.{from}
-use Rattle.steps.specs.declared.Progress.{Progress}
-use Rattle.steps.specs.Progress.{extension, Tracks, Within, Says}
+use Rattle.frame.proofs.OpLaws.{by_gate}
+use Rattle.netlist.specs.Says.{ahead}
+use Rattle.steps.specs.Kept.{extension}
 use Rattle.checker.specs.Lines.{frame_step}
 use Rattle.checker.specs.Replays.{RanTo}
 
 -- ---- the step of a frame
 
-pub frame_resolve : (room line : ℕ) (s : State) (a b v : ℕ) → frame_step room line s (frame_of (Resolve a b v)) ≡ step room line s (resolve a b v)
+pub frame_resolve : (room line : ℕ) (s : State) (r : ResolveLine) → frame_step room line s (frame_of (Resolve r)) ≡ step room line s (resolve r.first r.second r.variable)
 unfolding frame_step guard
-frame_resolve room line s a b v = refl
+frame_resolve room line s r = refl
 
-pub frame_extend : (room line : ℕ) (s : State) (op : Op) (x y : ℕ) → frame_step room line s (frame_of (Extend op x y)) ≡ step room line s (extension op x y)
+pub frame_extend : (room line : ℕ) (s : State) (g : GateLine) → frame_step room line s (frame_of (Extend g)) ≡ step room line s (extension g.op g.x g.y)
 unfolding frame_step guard
-frame_extend room line s And x y = refl
-frame_extend room line s Xor x y = refl
+frame_extend room line s g = by_op g.op
+  where
+    by_op : (op : Op) → frame_step room line s (record { kind = extend_kind op; fields = g.x ∷ g.y ∷ [] }) ≡ step room line s (extension op g.x g.y)
+    by_op And = refl
+    by_op Xor = refl
 
-pub frame_other : (room line : ℕ) (s : State) (f : Frame) → ((a b v : ℕ) → f ≡ Resolve a b v → ⊥) → ((op : Op) (x y : ℕ) → f ≡ Extend op x y → ⊥)
+pub frame_other : (room line : ℕ) (s : State) (f : Frame) → ((r : ResolveLine) → f ≡ Resolve r → ⊥) → ((g : GateLine) → f ≡ Extend g → ⊥)
     → frame_step room line s (frame_of f) ≡ refused 3 line
 unfolding frame_step guard
 frame_other room line s (Header i g o) r e = refl
-frame_other room line s (Gate And x y) r e = refl
-frame_other room line s (Gate Xor x y) r e = refl
+frame_other room line s (Gate g) r e = by_gate (λ k. frame_step room line s (record { kind = k; fields = g.x ∷ g.y ∷ [] }) ≡ refused 3 line) refl refl g.op
 frame_other room line s (Output l) r e = refl
-frame_other room line s (Resolve a b v) r e = absurd (r a b v refl)
-frame_other room line s (Extend op x y) r e = absurd (e op x y refl)
+frame_other room line s (Resolve t) r e = absurd (r t refl)
+frame_other room line s (Extend g) r e = absurd (e g refl)
 frame_other room line s (Report r n t c) r' e = refl
 
 -- ---- the lines
@@ -61,86 +65,46 @@ unfolding guard
 by_frame room line s true f go = refl
 by_frame room line s false f go = refl
 
-replay_read : (room : ℕ) (s : State) (text : List ℕ) (c : Cursor) (f : Frame) (next : Cursor) → found (frame_of f) (from text next) next.line ≡ first (from text c) c.line
-    → replay room s (from text c) c.line ≡ bind (frame_step room c.line s (frame_of f)) (λ s'. replay room s' (from text next) next.line)
+replay_read : (room : ℕ) (s : State) (ls : List Line) (line : ℕ) (f : Frame) (rest : List Line) (next : ℕ) → found (frame_of f) rest next ≡ first ls line
+    → replay room s ls line ≡ bind (frame_step room line s (frame_of f)) (λ s'. replay room s' rest next)
 unfolding replay step_at due_at frame_step
-replay_read room s text c f next e =
-    let r = first_found (from text c) c.line e in
-    rw (r.cut, r.frame, r.next_is) (by_frame room c.line s (is_step (frame_of f).kind) (frame_of f) _)
+replay_read room s ls line f rest next e =
+    let r = first_found ls line e in
+    rw (r.cut, r.frame, r.next_is) (by_frame room line s (is_step (frame_of f).kind) (frame_of f) _)
 
 -- no line is left
-pub replay_ended : (room : ℕ) (s : State) (text : List ℕ) (c : Cursor) → none ≡ first (from text c) c.line → replay room s (from text c) c.line ≡ ok s
+pub replay_ended : (room : ℕ) (s : State) (c : Cursor) → none ≡ first (ahead c) c.line → replay room s (ahead c) c.line ≡ ok s
 unfolding replay
-replay_ended room s text c e = rw (first_none (from text c) c.line e)
+replay_ended room s c e = rw (first_none (ahead c) c.line e)
 
 -- or the line is refused
-pub replay_fault : (room : ℕ) (s : State) (text : List ℕ) (c : Cursor) {number place : ℕ} → fault number place ≡ first (from text c) c.line
-    → replay room s (from text c) c.line ≡ refused number place
+pub replay_fault : (room : ℕ) (s : State) (c : Cursor) {number place : ℕ} → fault number place ≡ first (ahead c) c.line
+    → replay room s (ahead c) c.line ≡ refused number place
 unfolding replay step_at due_at
-replay_fault room s text c e = let r = first_fault (from text c) c.line e in rw (r.cut, r.refusal)
+replay_fault room s c e = let r = first_fault (ahead c) c.line e in rw (r.cut, r.refusal)
 
--- ---- lines replayed so far
+-- ---- one line: its step is done, or is refused
 
-pub ran_none : {room : ℕ} {text : List ℕ} {c : Cursor} {store : List ℕ} {p : Progress} → Inside text c → Within store p room → RanTo room text c store p store c p
-ran_none i w = record { inside = i; within = w; long = refl; from_all = λ s t. record { state = s; tracks = t; same = refl } }
+module _ (room : ℕ) (c : Cursor) (f : Frame) (s : State) where
+  pub ran_line : (next : Cursor) → found (frame_of f) (ahead next) next.line ≡ first (ahead c) c.line → (s' : State) → ok s' ≡ frame_step room c.line s (frame_of f)
+      → RanTo room c s next s'
+  ran_line next e s' step = replay_read room s (ahead c) c.line f (ahead next) next.line e ∙ rw (sym step) refl
 
-module _ {room : ℕ} {text : List ℕ} {c₀ : Cursor} {store₀ : List ℕ} {p₀ : Progress} {store : List ℕ} {c : Cursor} {p : Progress} (r : RanTo room text c₀ store₀ p₀ store c p) where
-  -- and then others
-  pub ran_joined : {store' : List ℕ} {c' : Cursor} {p' : Progress} → RanTo room text c store p store' c' p' → RanTo room text c₀ store₀ p₀ store' c' p'
-  ran_joined q =
-      record {
-        inside = q.inside;
-        within = q.within;
-        long = q.long ∙ r.long;
-        from_all = λ s t.
-            let a = r.from_all s t in
-            let b = q.from_all a.state a.tracks in
-            record { state = b.state; tracks = b.tracks; same = a.same ∙ b.same };
-      }
+  pub line_refused : {rest : List Line} {next : ℕ} → found (frame_of f) rest next ≡ first (ahead c) c.line → {number line : ℕ}
+      → refused number line ≡ frame_step room c.line s (frame_of f) → replay room s (ahead c) c.line ≡ refused number line
+  line_refused {rest} {next} e step = replay_read room s (ahead c) c.line f rest next e ∙ rw (sym step) refl
 
-  -- or a refusal
-  pub ran_refused : {number line : ℕ} → ((s : State) → Tracks store p s → replay room s (from text c) c.line ≡ refused number line)
-      → (s : State) → Tracks store₀ p₀ s → replay room s (from text c₀) c₀.line ≡ refused number line
-  ran_refused f s t = let a = r.from_all s t in a.same ∙ f a.state a.tracks
+-- ---- a resolve, read without a frame, and the cursor behind it
 
--- one line: its step is done, or is refused
-module _ (room : ℕ) (text : List ℕ) (c : Cursor) (f : Frame) (next : Cursor) (e : found (frame_of f) (from text next) next.line ≡ first (from text c) c.line)
-    (store : List ℕ) (p : Progress) where
-  pub ran_line : (store' : List ℕ) (q : Progress) → Inside text next → Within store p room → length store' ≡ length store
-      → ((s : State) → Tracks store p s → Says room (frame_step room c.line s (frame_of f)) store' (Ok q)) → RanTo room text c store p store' next q
-  ran_line store' q i w n step =
-      record {
-        inside = i;
-        within = (step w.state w.tracks).3;
-        long = n;
-        from_all = λ s t.
-            let k = step s t in
-            record { state = k.0; tracks = k.2; same = replay_read room s text c f next e ∙ rw k.1 };
-      }
+pub past_shorter : (text : List ℕ) {rest : List ℕ} → rest ≡ drop proof_line_bytes text → length rest ≡ length text - proof_line_bytes
+past_shorter text e = rw (e, length-drop) refl
 
-  pub line_refused : {number line : ℕ} → ((s : State) → Tracks store p s → frame_step room c.line s (frame_of f) ≡ refused number line)
-      → (s : State) → Tracks store p s → replay room s (from text c) c.line ≡ refused number line
-  line_refused step s t = replay_read room s text c f next e ∙ rw (step s t)
+module _ (room : ℕ) (c : Cursor) {a b v : ℕ} (l : HasLine c.rest.now proof_line_bytes resolve_kind (a ∷ b ∷ v ∷ [])) (s : State) where
+  pub ran_resolve : (next : Cursor) → (next.rest.now ≡ drop proof_line_bytes c.rest.now) × (next.line ≡ c.line + 1) → (s' : State)
+      → ok s' ≡ step room c.line s (resolve a b v) → RanTo room c s next s'
+  ran_resolve next behind s' does =
+      let n : next.line ≡ suc c.line = omega (arith, behind.1) in
+      ran_line room c (Resolve (record { first = a; second = b; variable = v })) s next (rw (behind.0, n) (l.framed c.line)) s' (does ∙ sym (frame_resolve room c.line s (record { first = a; second = b; variable = v })))
 
--- ---- a resolve, read without a frame
-
--- the cursor behind it
-abbrev behind : Cursor → Cursor
-behind c = record { at = c.at + proof_line_bytes; line = c.line + 1 }
-
-module _ (room : ℕ) (text : List ℕ) (c : Cursor) (i : Inside text c) {a b v : ℕ} (l : LineAt text c.at proof_line_bytes resolve_kind (a ∷ b ∷ v ∷ [])) where
-  pub behind_resolve : Inside text (behind c)
-  behind_resolve = record { at = l.room; line = omega (arith, i.line) }
-
-  resolve_read : found (frame_of (Resolve a b v)) (from text (behind c)) (c.line + 1) ≡ first (from text c) c.line
-  resolve_read = let s : c.line + 1 ≡ suc c.line = omega arith in rw s (l.framed c.line)
-
-  module _ (store : List ℕ) (p : Progress) where
-    pub ran_resolve : (store' : List ℕ) (q : Progress) → Within store p room → length store' ≡ length store
-        → ((s : State) → Tracks store p s → Says room (step room c.line s (resolve a b v)) store' (Ok q)) → RanTo room text c store p store' (behind c) q
-    ran_resolve store' q w n does =
-        ran_line room text c (Resolve a b v) (behind c) resolve_read store p store' q behind_resolve w n (λ s t. rw (frame_resolve room c.line s a b v) (does s t))
-
-    pub resolve_refused : {number line : ℕ} → ((s : State) → Tracks store p s → step room c.line s (resolve a b v) ≡ refused number line)
-        → (s : State) → Tracks store p s → replay room s (from text c) c.line ≡ refused number line
-    resolve_refused does = line_refused room text c (Resolve a b v) (behind c) resolve_read store p (λ s t. rw (frame_resolve room c.line s a b v) (does s t))
+  pub resolve_refused : {number line : ℕ} → refused number line ≡ step room c.line s (resolve a b v) → replay room s (ahead c) c.line ≡ refused number line
+  resolve_refused does = line_refused room c (Resolve (record { first = a; second = b; variable = v })) s (l.framed c.line) (does ∙ sym (frame_resolve room c.line s (record { first = a; second = b; variable = v })))

@@ -14,12 +14,9 @@ use Rattle.model.specs.Lists.{Lists, read_both}
 use Rattle.model.specs.Miter.{miter}
 use Rattle.model.specs.Steps.{State, replay}
 use Rattle.model.specs.Checker.{begin, verdict_on, capacity, check, stored_all}
-use Rattle.netlist.specs.declared.Pair.{Pair}
-use Rattle.netlist.specs.Says.{from}
-use Rattle.netlist.specs.Replies.{both_of}
-use Rattle.netlist.proofs.ReplyLaws.{BothLists, both_none}
-use Rattle.steps.specs.declared.Progress.{Progress}
-use Rattle.steps.specs.Progress.{Tracks}
+use Rattle.frame.specs.declared.cursor.Cursor.{Cursor}
+use Rattle.netlist.specs.Says.{ahead, both_read}
+use Rattle.steps.specs.Kept.{Held}
 use Rattle.steps.proofs.HeldLaws.{all_width}
 use Rattle.miter.specs.Miters.{begin_of}
 
@@ -41,43 +38,43 @@ by_begin room l ls line = go (leb (length (miter l.left l.right)) room)
     go true = refl
     go false = refl
 
-module _ {text : List ℕ} {p : Pair} (b : BothLists text p) (n room : ℕ) (is : room ≡ capacity n) where
+-- from the cursor behind both lists
+module _ (text : List ℕ) (l : Lists) (next : Cursor) (read : ok (both_read (l, next)) ≡ read_both text) (n room : ℕ) (is : room ≡ capacity n) where
   abbrev begun_as : Answer State
-  begun_as = begin_of room b.read.lists.left b.read.lists.right
+  begun_as = begin_of room l.left l.right
 
-  check_is : check text n ≡ bind begun_as (ending room (from text p.next) p.next.line)
+  check_is : check text n ≡ bind begun_as (ending room (ahead next) next.line)
   unfolding check
-  check_is = rw (b.reads, sym is) (by_begin room b.read.lists b.read.rest b.read.line ∙ rw (b.rest, b.line))
+  check_is = rw (← read, sym is) (by_begin room l (ahead next) next.line)
 
   pub begin_refused : {number line : ℕ} → begun_as ≡ refused number line → check text n ≡ refused number line
   begin_refused e = check_is ∙ rw e
 
   module _ (s₀ : State) (begun : begun_as ≡ ok s₀) where
-    pub replay_refused : {number line : ℕ} → replay room s₀ (from text p.next) p.next.line ≡ refused number line
-        → check text n ≡ refused number line
+    pub replay_refused : {number line : ℕ} → replay room s₀ (ahead next) next.line ≡ refused number line → check text n ≡ refused number line
     replay_refused e = check_is ∙ rw (begun, e)
 
-    replayed : (s : State) → replay room s₀ (from text p.next) p.next.line ≡ ok s → check text n ≡ guard s.empty 15 0 (ok s)
+    replayed : (s : State) → replay room s₀ (ahead next) next.line ≡ ok s → check text n ≡ guard s.empty 15 0 (ok s)
     replayed s e = check_is ∙ rw (begun, e)
 
-    pub not_empty : (s : State) → replay room s₀ (from text p.next) p.next.line ≡ ok s → s.empty ≡ false → check text n ≡ refused 15 0
+    pub not_empty : (s : State) → replay room s₀ (ahead next) next.line ≡ ok s → s.empty ≡ false → check text n ≡ refused 15 0
     unfolding guard
     not_empty s e f = replayed s e ∙ rw f
 
-    pub accepted : (s : State) → replay room s₀ (from text p.next) p.next.line ≡ ok s → s.empty ≡ true → check text n ≡ ok s
+    pub accepted : (s : State) → replay room s₀ (ahead next) next.line ≡ ok s → s.empty ≡ true → check text n ≡ ok s
     unfolding guard
     accepted s e f = replayed s e ∙ rw f
 
 -- where the lists are refused
-pub unread : (text : List ℕ) (n : ℕ) {number line : ℕ} → refused number line ≡ both_of (read_both text) → check text n ≡ refused number line
+pub unread : (text : List ℕ) (n : ℕ) {number line : ℕ} → refused number line ≡ read_both text → check text n ≡ refused number line
 unfolding check
-unread text n {number} {line} e = rw (both_none text number line e)
+unread text n e = rw (← e)
 
 -- ---- the store afterwards
 
 -- of one that had n numbers before: the clauses stay, and zeros come behind them
-pub kept : (store last : List ℕ) (p : Progress) (s : State) (n : ℕ) → Tracks store p s → length store ≡ n
-    → last ≡ take (clause_width * p.clauses) store ++ zeros (length store - clause_width * p.clauses) → last ≡ filled n (stored_all s.clauses)
-kept store last p s n t e is =
-    let many : clause_width * p.clauses ≡ clause_width * length s.clauses = omega (arith, t.clauses) in
-    is ∙ rw (many, t.held.same, all_width s.clauses t.held.proper, e)
+pub kept : (store last : List ℕ) (s : State) (count n : ℕ) → Held store s.clauses → length s.clauses ≡ count → length store ≡ n
+    → last ≡ take (clause_width * count) store ++ zeros (length store - clause_width * count) → last ≡ filled n (stored_all s.clauses)
+kept store last s count n h c e is =
+    let many : clause_width * count ≡ clause_width * length s.clauses = omega (arith, c) in
+    is ∙ rw (many, h.same, all_width s.clauses h.proper, e)

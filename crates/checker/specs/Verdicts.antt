@@ -7,13 +7,12 @@ use Rattle.model.specs.Steps.{State}
 use Rattle.laws.specs.Soundness.{AgreeingLists}
 use Rattle.refusal.specs.declared.Refusal.{Refusal}
 use Rattle.refusal.specs.Answers.{refused_by}
-use Rattle.steps.specs.declared.Progress.{Progress}
-use Rattle.steps.specs.Progress.{Tracks}
+use Rattle.steps.specs.Kept.{Held}
 use Rattle.checker.specs.declared.Accepted.{Accepted}
 
--- the state at the end, which the store stands for, or the same refusal
-abbrev pub VerdictSays : Answer State → List ℕ → Result Progress Refusal → Type 0
-VerdictSays a store (Ok p) = (s : State) × (a ≡ ok s) × Tracks store p s × (p.clauses ≤ most_clauses)
+-- the state at the end, whose clauses the store holds and whose counts these are, or the same refusal
+abbrev pub VerdictSays : Answer State → List ℕ → Result Accepted Refusal → Type 0
+VerdictSays a store (Ok c) = (s : State) × (a ≡ ok s) × Held store s.clauses × (s.steps ≡ c.steps) × (length s.clauses ≡ c.clauses) × (c.clauses ≤ most_clauses)
 VerdictSays a store (Err r) = a ≡ refused_by r
 
 -- ---- the reply

@@ -30,12 +30,9 @@ pub fn check(text: &[u8], store: &mut [u16]) -> Result<Accepted, Refusal>
     ensures agrees { Agreeing text.now result }
 {
     match verdict(text, store) {
-        Ok(p) => {
-            clear(store, Clause::WIDTH * p.clauses);
-            Ok(Accepted {
-                steps: p.steps,
-                clauses: p.clauses,
-            })
+        Ok(accepted) => {
+            clear(store, Clause::WIDTH * accepted.clauses);
+            Ok(accepted)
         }
         Err(refusal) => {
             clear(store, 0);

@@ -1,92 +1,69 @@
 // All lines of a proof, one step each (document 01, 'Steps'), up to the end of the text or the first fault.
+ghost use Rattle.std.specs.Prelude.{◌≡◌};
 ghost use Rattle.model.specs.Steps as model;
-ghost use Rattle.model.specs.Steps.{State};
-ghost use Rattle.frame.specs.Frames.{frame_of, Inside};
-ghost use Rattle.netlist.specs.Says.{from};
-ghost use Rattle.steps.specs.Progress.{Tracks, Within, Says};
+ghost use Rattle.frame.specs.Frames.{frame_of};
+ghost use Rattle.netlist.specs.Says.{ahead};
+ghost use Rattle.steps.specs.Kept.{replied};
+ghost use Rattle.steps.specs.Proofs.{state_of, SamePlace};
 ghost use Rattle.checker.specs.Lines.{frame_step};
 ghost use Rattle.checker.specs.Replays.{RanSays};
 
+use frame::cursor::Cursor;
 use frame::kinds::RESOLVE_BYTES;
 use frame::rows::resolve_line;
-use frame::{Cursor, Frame, read_line};
+use frame::{Frame, read_line};
 use refusal::{Reason, Refusal};
-use steps::{Progress, extend_step, resolve_step};
+use steps::Proof;
 
 // The step that a frame means: 3 unless it is a step.
-fn frame_step(
-    store: &mut [u16],
-    p: Progress,
-    room: usize,
-    line: usize,
-    frame: Frame,
-) -> Result<Progress, Refusal>
-    requires { Within store.old p room }
-    ensures { (s : State) → Tracks store.old p s → Says room (frame_step room line s (frame_of frame)) store.new result }
+fn frame_step(proof: &mut Proof, line: usize, frame: Frame) -> Result<(), Refusal>
+    ensures step { replied result (state_of proof.new) ≡ frame_step proof.old.room line (state_of proof.old) (frame_of frame) }
+    ensures place { SamePlace proof.old proof.new }
 {
     match frame {
-        Frame::Resolve {
-            first,
-            second,
-            variable,
-        } => resolve_step(
-            store,
-            p,
-            room,
+        Frame::Resolve(step) => proof.resolve(
             line,
-            first as usize,
-            second as usize,
-            variable,
+            step.first as usize,
+            step.second as usize,
+            step.variable,
         ),
-        Frame::Extend { op, x, y } => extend_step(store, p, room, line, op, x, y),
+        Frame::Extend(gate) => proof.extend(line, gate.op, gate.x, gate.y),
         _ => Err(Reason::Frame.at(line)),
     }
 }
 
-// The resolves in a row from a cursor on: the cursor behind them and the progress then, or the refusal of one. Long proofs have hardly any other
-// line, and no frame is built for these.
-fn run_resolves(
-    text: &[u8],
-    cursor: Cursor,
-    store: &mut [u16],
-    start: Progress,
-    room: usize,
-) -> Result<(Cursor, Progress), Refusal>
-    requires { Inside text.now cursor × Within store.old start room }
-    ensures { RanSays room text.now cursor store.old start store.new result }
+// The resolves in a row from a cursor on: the cursor behind them, or the refusal of one. Long proofs have hardly any other line, and no frame is
+// built for these. No iterator stands in the loop's place: a step may be refused, and the line that is no resolve is read again by `replay`.
+fn run_resolves<'a>(cursor: Cursor<'a>, proof: &mut Proof) -> Result<Cursor<'a>, Refusal>
+    ensures ran { RanSays proof.old.room cursor.entry (state_of proof.old) (state_of proof.new) result }
+    ensures place { SamePlace proof.old proof.new }
 {
     let mut c = cursor;
-    let mut p = start;
-    while let Some(step) = resolve_line(text, c.at) {
+    while let Some(step) = resolve_line(c.rest) {
         let (first, second) = (step.first as usize, step.second as usize);
-        p = resolve_step(store, p, room, c.line, first, second, step.variable)?;
-        c = Cursor {
-            at: c.at + RESOLVE_BYTES,
-            line: c.line + 1,
-        };
+        proof.resolve(c.line, first, second, step.variable)?;
+        c = c.past(RESOLVE_BYTES, 1);
     }
-    Ok((c, p))
+    Ok(c)
 }
 
-// The lines from a cursor on: resolves in a row, then a line of any kind, and so on.
-pub fn replay(
-    text: &[u8],
-    cursor: Cursor,
-    store: &mut [u16],
-    start: Progress,
-    room: usize,
-) -> Result<Progress, Refusal>
-    requires { Inside text.now cursor × Within store.old start room }
-    ensures { (s : State) → Tracks store.old start s → Says room (model.replay room s (from text.now cursor) cursor.line) store.new result }
+// The lines from a cursor on: resolves in a row, then a line of any kind, and so on. The loop goes by a cursor, which each line moves by its own
+// length. A line, the end of the text and a refused line stand side by side in one match: a `?` would leave two of them to a `let .. else`, and then
+// no edit shows that the last is not taken for the end (must-fail/fault_is_end).
+pub fn replay(cursor: Cursor<'_>, proof: &mut Proof) -> Result<(), Refusal>
+    ensures replays { replied result (state_of proof.new) ≡ model.replay proof.old.room (state_of proof.old) (ahead cursor.entry) cursor.entry.line }
+    ensures place { SamePlace proof.old proof.new }
 {
     let mut c = cursor;
-    let mut p = start;
     loop {
-        let (d, q) = run_resolves(text, c, store, p, room)?;
-        let Some((frame, next)) = read_line(text, d)? else {
-            return Ok(q);
-        };
-        p = frame_step(store, q, room, d.line, frame)?;
-        c = next;
+        let d = run_resolves(c, proof)?;
+        match read_line(d) {
+            Ok(Some((frame, next))) => {
+                frame_step(proof, d.line, frame)?;
+                c = next;
+            }
+            Ok(None) => return Ok(()),
+            Err(refusal) => return Err(refusal),
+        }
     }
 }

@@ -24,7 +24,7 @@ pub fn and_clause(n: Literal, x: Literal, y: Literal, j: usize) -> Clause
     }
 }
 
-// Clause j of n = XOR of x, y.
+// Clause j of n = XOR of x, y. It stands beside the AND's: they share no clause.
 #[tactic(auto, unfolding(model::specs::Clauses::xor_clauses))]
 pub fn xor_clause(n: Literal, x: Literal, y: Literal, j: usize) -> Clause
     requires { j < 4 }

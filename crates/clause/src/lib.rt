@@ -14,7 +14,8 @@ ghost use Rattle.clause.specs.Sets.{Ascending, codes};
 use literal::Literal;
 use std::marker::Model;
 
-// The literals in use are the first `len`; behind them stands Literal::BOUND.
+// The literals in use are the first `len`; behind them stands Literal::BOUND. An array and its length, since a `Vec` would be on the heap (document 01
+// has fixed memory).
 #[derive(Clone, Copy)]
 pub struct Clause {
     literals: [u16; Clause::WIDTH],

@@ -1,4 +1,4 @@
--- One line more behind those that the proof bytes have, and what a function that writes it emits.
+-- One line more behind those that the proof has, and what a function that writes it emits.
 use Prim.Native.Nat.{ℕ, ◌+◌, ◌-◌, ◌*◌, ◌≤◌}
 use mathlib.Core.Path.{◌≡◌, refl, sym, ap, ◌∙◌}
 use mathlib.Core.List.{List, [], ◌∷◌, ◌++◌, append-nil, map-append}
@@ -17,7 +17,7 @@ use Rattle.emit_laws.specs.Trees.{lay}
 use Rattle.emit_laws.specs.Trees.Tree.{old, cut}
 use Rattle.emit_laws.specs.Text.{proof_text}
 use Rattle.emit_laws.proofs.Text.{proof_bytes_lem}
-use Rattle.derivation.specs.declared.lines.Derived.{Derived}
+use Rattle.derivation.specs.declared.lines.Proof.{Proof}
 use Rattle.derivation.specs.Emission.{Written, Room, Emits}
 
 -- a resolution's line
@@ -46,14 +46,17 @@ line_more p rs r e h w =
     ∙ store_behind (length p) (proof_text rs) (line_of (frame_of r)) (omega (arith, line_bytes_lem r, proof_bytes_lem rs)))
 
 -- the resolvent of two clauses that are there
-pub emits_line : (p : List ℕ) (s : Derived) (a b l : ℕ) {q : List ℕ} {r : Derived} {f : Frame} → Room (length p) s 1 → f ≡ frame_of (pivot a b l)
-    → q ≡ sets p (proof_line_bytes * s.lines) (line_of f)
-    → r ≡ record { lines = s.lines + 1; clauses = s.clauses + 1; clause = s.clauses + 1 } → Emits p s q r (cut (old a) (old b) l)
+pub emits_line : (s r : Proof) (a b l : ℕ) {c : ℕ} {f : Frame} → Room s 1 → f ≡ frame_of (pivot a b l)
+    → r.bytes.now ≡ sets s.bytes.now (proof_line_bytes * s.lines) (line_of f) → r.lines ≡ s.lines + 1 → r.clauses ≡ s.clauses + 1 → c ≡ s.clauses + 1
+    → Emits s r c (cut (old a) (old b) l)
 unfolding lay
-emits_line p s a b l room f q r =
-    rw r (record {
-      written = λ rs w n. rw (q, f) (line_more p rs (pivot a b l) (omega arith) (omega arith) w);
-      lines = omega arith;
-      clauses = omega arith;
+emits_line s r a b l room f q ls cs n =
+    record {
+      adds =
+          record {
+            written = λ rs w n. rw (q, f) (line_more s.bytes.now rs (pivot a b l) (omega arith) (omega arith) w);
+            lines = omega arith;
+            clauses = omega arith;
+          };
       number = omega arith;
-    })
+    }

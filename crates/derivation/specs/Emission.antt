@@ -1,46 +1,50 @@
--- What an emitting function does: the lines of a derivation stand behind those that the proof bytes have.
-use Rattle.std.specs.Prelude.{ℕ, ◌+◌, ◌*◌, ◌≤◌, ◌≡◌, List, ◌++◌, eqb, length}
+-- What an emitting function does: the lines of a derivation stand behind those that the proof has.
+use Rattle.std.specs.Prelude.{ℕ, ◌+◌, ◌*◌, ◌≤◌, ◌≡◌, ◌≢◌, List, [], ◌∷◌, ◌++◌, length}
 use Rattle.model.specs.Limits.{most_clauses, proof_line_bytes}
 use Rattle.model.specs.Answers.{filled}
 use Rattle.emit_laws.specs.Replay.{Resolution}
-use Rattle.emit_laws.specs.Trees.{Tree, size, num, lay, sizes, nums, lays}
+use Rattle.emit_laws.specs.Trees.{Tree, num, lay, nums, lays}
 use Rattle.emit_laws.specs.Text.{proof_text}
 use Rattle.table.specs.Links.{link_width}
-use Rattle.derivation.specs.declared.lines.Derived.{Derived}
+use Rattle.derivation.specs.declared.lines.Proof.{Proof}
 use Rattle.derivation.specs.declared.gates.DerivedGate.{DerivedGate}
+use Rattle.derivation.specs.declared.gates.DerivedGate.TheVariants.{Linked, Own}
 
--- the proof bytes are these lines, with zeros behind
+-- the bytes are these lines, with zeros behind
 abbrev pub Written : List ℕ → List Resolution → Type 0
-Written proof rs = proof ≡ filled (length proof) (proof_text rs)
+Written bytes rs = bytes ≡ filled (length bytes) (proof_text rs)
 
--- so many lines more have room in so many bytes, and their clauses have numbers
-pub record Room (bytes : ℕ) (at : Derived) (more : ℕ) : Type 0 where
-  pub bytes_for_all : proof_line_bytes * (at.lines + more) ≤ bytes
+-- so many lines more have room, and their clauses have numbers
+pub record Room (at : Proof) (more : ℕ) : Type 0 where
+  pub bytes_for_all : proof_line_bytes * (at.lines + more) ≤ length at.bytes.now
   pub numbers : at.clauses + more ≤ most_clauses
 
--- at most so many lines more
-pub record Few (at : Derived) (more : ℕ) (r : Derived) : Type 0 where
+-- at most so many lines more, in the same bytes
+pub record Few (at : Proof) (more : ℕ) (r : Proof) : Type 0 where
+  pub same_bytes : r.bytes.ghost_name ≡ at.bytes.ghost_name
+  pub length_kept : length r.bytes.now ≡ length at.bytes.now
   pub lines : r.lines ≤ at.lines + more
   pub clauses : r.clauses ≤ at.clauses + more
 
--- from the bytes p, with the proof's end at s, to the bytes q, with its end at r, the lines of the tree t were written, and r has the number
--- of its clause
-pub record Emits (p : List ℕ) (s : Derived) (q : List ℕ) (r : Derived) (t : Tree) : Type 0 where
-  pub written : (rs : List Resolution) → Written p rs → length rs ≡ s.lines → Written q (rs ++ lay s.clauses t)
-  pub lines : r.lines ≡ s.lines + size t
-  pub clauses : r.clauses ≡ s.clauses + size t
-  pub number : r.clause ≡ num s.clauses t
+-- these lines were written behind those that stand, and their clauses counted
+pub record Adds (s r : Proof) (more : List Resolution) : Type 0 where
+  pub written : (rs : List Resolution) → Written s.bytes.now rs → length rs ≡ s.lines → Written r.bytes.now (rs ++ more)
+  pub lines : r.lines ≡ s.lines + length more
+  pub clauses : r.clauses ≡ s.clauses + length more
+
+-- the lines of the tree t were written, and c is the number of its clause
+pub record Emits (s r : Proof) (c : ℕ) (t : Tree) : Type 0 where
+  pub adds : Adds s r (lay s.clauses t)
+  pub number : c ≡ num s.clauses t
 
 -- ---- a gate's trees
 
-pub record FewGate (at : Derived) (more : ℕ) (r : DerivedGate) : Type 0 where
-  pub lines : r.lines ≤ at.lines + more
-  pub clauses : r.clauses ≤ at.clauses + more
+-- the numbers of the clauses that a gate's trees derive: two are links, and others, up to four, are those over its key
+abbrev pub Numbers : DerivedGate → List ℕ → Type 0
+Numbers (Linked a b) ns = ns ≡ a ∷ b ∷ []
+Numbers (Own four) ns = (four ≡ filled link_width ns) × (length ns ≢ 2)
 
--- the same of some trees one after the other, and the numbers of their clauses; two are links
-pub record EmitsAll (p : List ℕ) (s : Derived) (q : List ℕ) (r : DerivedGate) (ts : List Tree) : Type 0 where
-  pub written : (rs : List Resolution) → Written p rs → length rs ≡ s.lines → Written q (rs ++ lays s.clauses ts)
-  pub lines : r.lines ≡ s.lines + sizes ts
-  pub clauses : r.clauses ≡ s.clauses + sizes ts
-  pub numbers : r.numbers ≡ filled link_width (nums s.clauses ts)
-  pub linked : r.linked ≡ eqb (length ts) 2
+-- the same of some trees one after the other, and the numbers of their clauses
+pub record EmitsAll (s r : Proof) (g : DerivedGate) (ts : List Tree) : Type 0 where
+  pub adds : Adds s r (lays s.clauses ts)
+  pub numbers : Numbers g (nums s.clauses ts)

@@ -5,5 +5,6 @@
 pub mod ands; // an AND gate
 pub mod gates; // a gate and the numbers of its clauses, before and behind its lines
 pub mod lines; // one line
+pub mod nets; // what is known of the nets
 pub mod subst; // representatives put for literals
 pub mod xors; // an XOR gate

@@ -1,5 +1,5 @@
-// One line of the proof: a resolution, written behind those before it.
-ghost use Rattle.std.specs.Prelude.{◌≡◌, length};
+// The proof that is written, line by line: a resolution behind those before it.
+ghost use Rattle.std.specs.Prelude.{◌≡◌};
 ghost use Rattle.frame.specs.Rows.{resolve_frame};
 ghost use Rattle.emit_laws.specs.Fields as model;
 ghost use Rattle.emit_laws.specs.Replay as replay;
@@ -11,19 +11,13 @@ use frame::kinds::RESOLVE_BYTES;
 use frame::resolves::write_resolve;
 use literal::Literal;
 
-// Where the proof ends: its lines, how many clauses there are then, and the number of the clause that was asked for.
-#[derive(Clone, Copy)]
-pub struct Derived {
+// The bytes, how many lines stand in them, and how many clauses there are then. That so many lines more have room is asked by each function
+// (`Room`, and `Few` of what it adds): the number is the function's own, and so no fact of the struct.
+#[derive(Drop)]
+pub struct Proof<'a> {
+    pub bytes: &'a mut [u8],
     pub lines: usize,
     pub clauses: u16,
-    pub clause: u16,
-}
-
-// Clause c, which is there.
-pub fn given(at: Derived, c: u16) -> Derived
-    ensures { result ≡ record { lines = at.lines; clauses = at.clauses; clause = c } }
-{
-    Derived { clause: c, ..at }
 }
 
 // The resolution of clause a, which holds the pivot, and clause b, which holds its complement.
@@ -45,18 +39,17 @@ fn resolution(a: u16, b: u16, pivot: Literal) -> Resolve
     }
 }
 
-// One line more, the resolution on this pivot, and its clause.
-pub fn resolve_on(proof: &mut [u8], at: Derived, a: u16, b: u16, pivot: Literal) -> Derived
-    requires { Room (length proof.old) at 1 }
-    ensures few { Few at 1 result }
-    ensures emits { Emits proof.old at proof.new result (cut_tree (old a) (old b) pivot.code) }
-{
-    let step = resolution(a, b, pivot);
-    write_resolve(proof, RESOLVE_BYTES * at.lines, step);
-    let clause = at.clauses + 1;
-    Derived {
-        lines: at.lines + 1,
-        clauses: clause,
-        clause,
+impl Proof<'_> {
+    // One line more, the resolution on this pivot, and the number of its clause.
+    pub fn resolve(&mut self, a: u16, b: u16, pivot: Literal) -> u16
+        requires { Room self.old 1 }
+        ensures few { Few self.old 1 self.new }
+        ensures emits { Emits self.old self.new result (cut_tree (old a) (old b) pivot.code) }
+    {
+        let step = resolution(a, b, pivot);
+        write_resolve(self.bytes, RESOLVE_BYTES * self.lines, step);
+        self.lines += 1;
+        self.clauses += 1;
+        self.clauses
     }
 }

@@ -5,7 +5,7 @@ use mathlib.Core.Path.{◌≡◌, refl, sym, ◌∙◌}
 use mathlib.Core.Bool.{Bool, true, false, ◌&&◌, not, cond}
 use Rattle.std.specs.Prelude.{Some, None}
 use native.Mathlib.Omega.{arith}
-use lib.Bits.{bit_and, and_block, and_mask, and_high, and_le_l, and_le_r}
+use lib.Bits.{bit_and, and_block, and_mask, and_high, and_le_l}
 use lib.Dec.{eqb, leb, ltb}
 use borrow.Author.Tests.{eqb-true, eq-eqb, leb-true, ltb-true, not-true}
 use Rattle.model.specs.Lines.{is_digit, digit_of, digit_value}
@@ -48,13 +48,6 @@ module _ (a b c d : ℕ) (ha : a < 16) (hb : b < 16) (hc : c < 16) (hd : d < 16)
       let m = and_packed (a + 6) (b + 6) (c + 6) (d + 6) 16 16 16 16 (omega arith) (omega arith) (omega arith) (omega arith) (omega arith) (omega arith) (omega arith) (omega arith) in
       rw (e, m, and_high (a + 6) 1 4, and_high (b + 6) 1 4, and_high (c + 6) 1 4, and_high (d + 6) 1 4, digit_sum a ha, digit_sum b hb, digit_sum c hc, digit_sum d hd)
       (omega arith)
-
-  pub word_parts : 256 * (4097 * packed a b c d / 256 % 256) + 4097 * packed a b c d / 16777216 % 256 ≡ 4096 * a + 256 * b + 16 * c + d
-  word_parts =
-      let t : 4097 * packed a b c d / 256 ≡ packed (16 * a + b) (16 * b + c) (16 * c + d) (16 * d) = omega arith in
-      let u : 4097 * packed a b c d / 16777216 ≡ 4097 * packed a b c d / 256 / 65536 = omega arith in
-      let p = its_parts (16 * a + b) (16 * b + c) (16 * c + d) (16 * d) (omega arith) (omega arith) (omega arith) in
-      rw (u, t, p.0, p.2) (omega arith)
 
 -- ---- four digits
 
@@ -162,6 +155,3 @@ no_wrap n h =
     let r = lane (n / 65536 % 256) (omega arith) in
     let s = lane (n / 16777216) (omega arith) in
     (omega (arith, and_le_l n 0x40404040), rw (parts n h) (rw (aboves_packed p q r s) (omega (arith, p.small.0, q.small.0, r.small.0, s.small.0))))
-
-pub few_values : (n : ℕ) → values n ≤ 0x18181818
-few_values n = omega (arith, and_le_r n 0x40404040, and_le_r n 0x0F0F0F0F)

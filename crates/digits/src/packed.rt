@@ -6,7 +6,7 @@ ghost use Rattle.digits.specs.Packed.{packed, four_values};
 pub fn pack(a: u8, b: u8, c: u8, d: u8) -> u32
     ensures { (result ≡ packed a b c d) × (a < 256) × (b < 256) × (c < 256) × (d < 256) }
 {
-    (a as u32) + 256 * (b as u32) + 65536 * ((c as u32) + 256 * (d as u32))
+    u32::from_le_bytes([a, b, c, d])
 }
 
 // The digits of four values: a letter stands seven bytes behind where a tenth figure would.

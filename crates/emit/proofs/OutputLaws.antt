@@ -8,27 +8,26 @@ use native.Mathlib.Omega.{arith}
 use lib.ListN.{length, drop, get_or}
 use lib.Seq.{drop-cons, drop-length}
 use borrow.Author.Tests.{ne_eqb}
-use Rattle.model.specs.Nets.{Gate, net_of, size as net_count}
+use Rattle.model.specs.Nets.{Gate, Netlist, net_of, size as net_count}
 use Rattle.model.specs.Nets.Op.{xor}
 use Rattle.model.specs.Clauses.{positive, neg}
 use Rattle.model.specs.Miter.{z_gates, first_gate, first_z}
 use Rattle.laws.specs.ListText.{below_at}
 use Rattle.laws.specs.MiterOrder.{last, shift_below, below_right}
-use Rattle.netlist.specs.declared.Pair.{Pair}
-use Rattle.listing.specs.Listing.{no_gate}
-use Rattle.netlist.specs.Within.{Within}
-use Rattle.miter.specs.Miters.{PairStands}
+use Rattle.laws.specs.Pairs as pairs
+use Rattle.listing.specs.Gates.{no_gate}
+use Rattle.miter.specs.declared.clauses.ClauseNumbers.{ClauseNumbers}
+use Rattle.miter.specs.Miters.{Numbered}
 use Rattle.miter.proofs.MiterLaws.{z_of_lem}
 use Rattle.emit_laws.specs.Trees.{Tree, size, lay}
 use Rattle.emit_laws.specs.Trees.Tree.{old, cut}
 use Rattle.emit_laws.specs.Subst.{subst2}
 use Rattle.emit_laws.specs.Outputs.{out_tree, chain, outs_tree}
-use Rattle.emit_laws.specs.Place.{first_z_clause}
 use Rattle.emit_laws.specs.Gates.{link_of}
 use Rattle.emit_laws.specs.Emit.{last_tree}
 use Rattle.emit_laws.specs.Stepwise.{Then}
 use Rattle.emit_laws.proofs.Stepwise.{then_old}
-use Rattle.derivation.specs.declared.lines.Derived.{Derived}
+use Rattle.derivation.specs.declared.lines.Proof.{Proof}
 use Rattle.derivation.specs.Emission.{Emits}
 use Rattle.derivation.proofs.EmitLaws.{emits_then, emits_cut_left}
 
@@ -89,10 +88,10 @@ then_second {n} {t} {d} {u} k l h =
 
 -- the outputs gs: their z from variable z and clause kz on, the w from variable t and clause kw on; the last clause is c
 module _ (R E : ℕ → ℕ) (gs : List Gate) (t kw z kz c : ℕ) where
-  -- the outputs before i were emitted, down to ¬w: with what is left they make up the whole
-  pub record UpTo (p : List ℕ) (s : Derived) (whole : Tree) (i : ℕ) (q : List ℕ) (r : Derived) (w : ℕ) : Type 0 where
+  -- the outputs before i were emitted, down to clause n, ¬w: with what is left they make up the whole
+  pub record UpTo (s : Proof) (whole : Tree) (i : ℕ) (r : Proof) (n w : ℕ) : Type 0 where
     pub run : Tree
-    pub emits : Emits p s q r run
+    pub emits : Emits s r n run
     pub left :
         cut (old c)
         (chain R E run w (t + (i - 1)) (kw + 3 * (i - 1)) (z + i) (kz + 4 * i) (drop i gs))
@@ -100,8 +99,8 @@ module _ (R E : ℕ → ℕ) (gs : List Gate) (t kw z kz c : ℕ) where
         ≡ whole
 
   -- the first
-  pub up_to_first : {p q : List ℕ} {s r : Derived} (x y : ℕ) → 0 < length gs → x ≡ (get_or gs 0 no_gate).x → y ≡ (get_or gs 0 no_gate).y
-      → Emits p s q r (out_tree R E kz (z_of x y)) → UpTo p s (outs_tree R E t kw z kz c gs) 1 q r z
+  pub up_to_first : {s r : Proof} {n : ℕ} (x y : ℕ) → 0 < length gs → x ≡ (get_or gs 0 no_gate).x → y ≡ (get_or gs 0 no_gate).y
+      → Emits s r n (out_tree R E kz (z_of x y)) → UpTo s (outs_tree R E t kw z kz c gs) 1 r n z
   up_to_first x y h ex ey f =
       let first_t : t + (1 - 1) ≡ t = omega arith in
       let first-kw : kw + 3 * (1 - 1) ≡ kw = omega arith in
@@ -112,15 +111,15 @@ module _ (R E : ℕ → ℕ) (gs : List Gate) (t kw z kz c : ℕ) where
       }
 
   -- one more
-  pub up_to_next : {p q m : List ℕ} {s r u : Derived} {whole : Tree} {i w : ℕ} (x y : ℕ) → 1 ≤ i → i < length gs
-      → x ≡ (get_or gs i no_gate).x → y ≡ (get_or gs i no_gate).y → UpTo p s whole i q r w
-      → Emits q r m u (cut (cut (old (kw + 3 * (i - 1) + 2)) (old r.clause) (positive w)) (out_tree R E (kz + 4 * i) (z_of x y)) (positive (z + i)))
-      → UpTo p s whole (i + 1) m u (t + (i - 1))
+  pub up_to_next : {s r u : Proof} {whole : Tree} {i n m w : ℕ} (x y : ℕ) → 1 ≤ i → i < length gs
+      → x ≡ (get_or gs i no_gate).x → y ≡ (get_or gs i no_gate).y → UpTo s whole i r n w
+      → Emits r u m (cut (cut (old (kw + 3 * (i - 1) + 2)) (old n) (positive w)) (out_tree R E (kz + 4 * i) (z_of x y)) (positive (z + i)))
+      → UpTo s whole (i + 1) u m (t + (i - 1))
   unfolding chain
-  up_to_next {s = s} {r} {i = i} {w} x y a b ex ey h f =
+  up_to_next {s} {i = i} {n} {w = w} x y a b ex ey h f =
       let k : ℕ = kw + 3 * (i - 1) in
       let g : Gate = get_or gs i no_gate in
-      let over : Then s.clauses h.run h.run (old r.clause) = rw h.emits.number (then_old s.clauses h.run) in
+      let over : Then s.clauses h.run h.run (old n) = rw h.emits.number (then_old s.clauses h.run) in
       let two : k + 2 ≡ suc (suc k) = omega arith in
       let next-t : t + (i + 1 - 1) ≡ suc (t + (i - 1)) = omega arith in
       let next-kw : kw + 3 * (i + 1 - 1) ≡ k + 3 = omega arith in
@@ -134,38 +133,28 @@ module _ (R E : ℕ → ℕ) (gs : List Gate) (t kw z kz c : ℕ) where
       }
 
   -- and the empty clause
-  pub up_to_all : {p q m : List ℕ} {s r u : Derived} {whole : Tree} {i w : ℕ} → i ≡ length gs → UpTo p s whole i q r w
-      → Emits q r m u (cut (old c) (old r.clause) (positive w)) → Emits p s m u whole
+  pub up_to_all : {s r u : Proof} {whole : Tree} {i n m w : ℕ} → i ≡ length gs → UpTo s whole i r n w
+      → Emits r u m (cut (old c) (old n) (positive w)) → Emits s u m whole
   unfolding chain
-  up_to_all {p} {m = m} {s} {u = u} e h f = subst (Emits p s m u) (rw (e, drop-length gs) at h.left) (emits_cut_left h.emits f)
+  up_to_all {s} {u = u} {m = m} e h f = subst (Emits s u m) (rw (e, drop-length gs) at h.left) (emits_cut_left h.emits f)
 
 -- ---- two lists
 
--- where the parts begin, z and w by variable, kz and kw by clause: all of them are small numbers
-pub record Begin (p : Pair) (z w kz kw : ℕ) : Type 0 where
-  pub within : Within p
-  pub few : kz ≤ 10000
-  pub z_is : z ≡ 1 + p.inputs + p.left + p.right
-  pub w_is : w ≡ 1 + p.inputs + p.left + p.right + p.outputs
-  pub kw_is : kw ≡ kz + 4 * p.outputs
-
-module _ {text : List ℕ} {p : Pair} (w : PairStands text p) where
+module _ {a b : Netlist} (ab : pairs.Pair a b) where
   -- a z reads nets of the lists
-  pub z_below : (k : ℕ) → k < p.outputs
-      → (net_of (get_or (z_gates w.left w.right) k no_gate).x < 1 + p.inputs + p.left + p.right)
-      × (net_of (get_or (z_gates w.left w.right) k no_gate).y < 1 + p.inputs + p.left + p.right)
+  pub z_below : (k : ℕ) → k < length a.outs
+      → (net_of (get_or (z_gates a b) k no_gate).x < 1 + a.inputs + length a.gates + length b.gates)
+      × (net_of (get_or (z_gates a b) k no_gate).y < 1 + a.inputs + length a.gates + length b.gates)
   z_below k h =
-      let a = w.left in
-      let b = w.right in
-      let e = z_of_lem a b w.alike k no_gate (omega (arith, w.outputs)) in
-      let x = below_at (net_count a) a.outs k w.alike.left.below (omega (arith, w.outputs)) in
+      let e = z_of_lem a b ab k no_gate h in
+      let x = below_at (net_count a) a.outs k ab.left.below h in
       let y = shift_below a.inputs (length a.gates) (get_or b.outs k 0) (first_gate a + length b.gates)
-      (below_at (first_gate a + length b.gates) b.outs k (below_right a b w.alike) (omega (arith, w.outputs, w.alike.outs))) in
-      rw e (omega (arith, w.inputs, w.left_gates), omega (arith, w.inputs, w.left_gates, w.right_gates_lem))
+      (below_at (first_gate a + length b.gates) b.outs k (below_right a b ab) (omega (arith, ab.outs))) in
+      rw e (omega arith, omega arith)
 
-  -- the outputs' tree, by the numbers that code has at hand
-  pub last_tree_lem : (R : ℕ → ℕ) (links : List (List ℕ)) (z t kz kw c : ℕ) → Begin p z t kz kw → c ≡ kz + 4 * p.outputs + 3 * (p.outputs - 1)
-      → kz ≡ first_z_clause w.left w.right → outs_tree R (link_of links) t kw z kz c (z_gates w.left w.right) ≡ last_tree R links w.left w.right
-  unfolding last_tree first_z
-  last_tree_lem R links z t kz kw c b e f =
-      rw (e, b.kw_is, b.w_is, b.z_is, f, ← w.inputs, ← w.left_gates, ← w.right_gates_lem, ← w.outputs)
+-- the outputs' tree, by the numbers that code has at hand
+pub last_tree_lem : {a b : Netlist} (R : ℕ → ℕ) (links : List (List ℕ)) (z t : ℕ) (k : ClauseNumbers) → Numbered k a b → z ≡ 1 + a.inputs + length a.gates + length b.gates
+    → t ≡ 1 + a.inputs + length a.gates + length b.gates + length a.outs
+    → outs_tree R (link_of links) t k.first_w z k.first_z k.last (z_gates a b) ≡ last_tree R links a b
+unfolding last_tree first_z
+last_tree_lem R links z t k n e f = rw (n.first_z, n.first_w, n.last, e, f)

@@ -1,6 +1,6 @@
 // A gate and the numbers of its clauses, in normal form: an XOR's operands are complemented so that their representatives have no sign, and
 // the operands are put in the order of their representatives.
-ghost use Rattle.std.specs.Prelude.{◌≡◌, false, true, List, ◌<◌, length};
+ghost use Rattle.std.specs.Prelude.{◌≡◌, false, List, ◌<◌, length};
 ghost use Rattle.model.specs.Nets.{net_of};
 ghost use Rattle.fold_laws.specs.Table.{Entry, rep_of};
 ghost use Rattle.emit_laws.specs.Gates as model;
@@ -10,30 +10,22 @@ ghost use Rattle.derivation.specs.Known.{literals_of, numbers_of};
 use derivation::gates::DefinedGate;
 use table::rows::representative;
 
-// The operands of an AND exchanged.
-fn swap_and(d: DefinedGate) -> DefinedGate
+// The operands exchanged, and two clauses with them: of an AND the first two, of an XOR the middle two.
+fn swap<const XOR: bool>(d: DefinedGate) -> DefinedGate
     ensures literals { literals_of result ≡ model.order false (literals_of d) }
-    ensures numbers { numbers_of result ≡ model.order_numbers false false (numbers_of d) }
+    ensures numbers { numbers_of result ≡ model.order_numbers XOR false (numbers_of d) }
 {
+    let (a, b, c) = if XOR {
+        (d.a, d.c, d.b)
+    } else {
+        (d.b, d.a, d.c)
+    };
     DefinedGate {
         x: d.y,
         y: d.x,
-        a: d.b,
-        b: d.a,
-        ..d
-    }
-}
-
-// The operands of an XOR exchanged; not one function with the AND's, since other clauses change places.
-fn swap_xor(d: DefinedGate) -> DefinedGate
-    ensures literals { literals_of result ≡ model.order false (literals_of d) }
-    ensures numbers { numbers_of result ≡ model.order_numbers true false (numbers_of d) }
-{
-    DefinedGate {
-        x: d.y,
-        y: d.x,
-        b: d.c,
-        c: d.b,
+        a,
+        b,
+        c,
         ..d
     }
 }
@@ -63,27 +55,17 @@ fn turn(d: DefinedGate, first: bool, second: bool) -> DefinedGate
     }
 }
 
-// An AND in normal form.
-pub fn normal_and(work: &[u16], d: DefinedGate) -> DefinedGate
-    ensures { (t : List Entry) → HoldsTable work.now t → net_of d.x.code < length t → net_of d.y.code < length t
-        → (literals_of result ≡ model.normal (rep_of t) false (literals_of d)) × (numbers_of result ≡ model.normal_numbers (rep_of t) false (literals_of d) (numbers_of d)) }
+// A gate in normal form: the operands of an AND keep their signs.
+pub fn normal<const XOR: bool>(table: &[u16], d: DefinedGate) -> DefinedGate
+    ensures { (t : List Entry) → HoldsTable table.now t → net_of d.x.code < length t → net_of d.y.code < length t
+        → (literals_of result ≡ model.normal (rep_of t) XOR (literals_of d))
+        × (numbers_of result ≡ model.normal_numbers (rep_of t) XOR (literals_of d) (numbers_of d)) }
 {
-    if representative(work, d.x) <= representative(work, d.y) {
-        return d;
-    }
-    swap_and(d)
-}
-
-// An XOR in normal form.
-pub fn normal_xor(work: &[u16], d: DefinedGate) -> DefinedGate
-    ensures { (t : List Entry) → HoldsTable work.now t → net_of d.x.code < length t → net_of d.y.code < length t
-        → (literals_of result ≡ model.normal (rep_of t) true (literals_of d)) × (numbers_of result ≡ model.normal_numbers (rep_of t) true (literals_of d) (numbers_of d)) }
-{
-    let first = representative(work, d.x).sign();
-    let second = representative(work, d.y).sign();
+    let first = XOR & representative(table, d.x).sign();
+    let second = XOR & representative(table, d.y).sign();
     let unsigned = turn(d, first, second);
-    if representative(work, unsigned.x) <= representative(work, unsigned.y) {
+    if representative(table, unsigned.x) <= representative(table, unsigned.y) {
         return unsigned;
     }
-    swap_xor(unsigned)
+    swap::<XOR>(unsigned)
 }

@@ -16,58 +16,54 @@ use Rattle.model.specs.Limits.{lines_per_gate, lines_per_output, proof_line_byte
 use Rattle.model.specs.Answers.{guard, bind, zeros, filled}
 use Rattle.model.specs.Answers.Answer.{ok, refused}
 use Rattle.model.specs.Lists.{Lists, read_lists}
-use Rattle.model.specs.Engine.{line_bound, working, provable, Outcome, Engine}
+use Rattle.model.specs.Engine.{working, provable, Outcome, Engine}
 use Rattle.fold_laws.specs.Engine.{by_reps}
 use Rattle.fold_laws.proofs.Engine.{differing_by_reps}
 use Rattle.emit_laws.specs.Text.{proof_text}
 use Rattle.emit_laws.specs.Proof.{proof_of}
 use Rattle.emit_laws.proofs.ProofLaws.{promised}
 use Rattle.laws.specs.ListText.{text_of}
-use Rattle.netlist.specs.declared.Pair.{Pair}
-use Rattle.netlist.specs.Replies.{pair_of}
-use Rattle.netlist.proofs.ReplyLaws.{TwoLists, two_none}
-use Rattle.miter.proofs.ListLaws.{lists_of_lem}
-use Rattle.miter.specs.Miters as miters
+use Rattle.laws.specs.Pairs as pairs
 use Rattle.derivation.specs.Emission.{Written}
-use Rattle.engine.specs.Replies.{lists_of, due, FoldedSays, AnswerSays}
+use Rattle.engine.specs.Replies.{due, FoldedSays, AnswerSays}
 
 -- ---- two lists
 
-module _ {text : List ℕ} {p : Pair} (w : miters.PairStands text p) (bytes numbers : ℕ) where
-  abbrev l : Lists
-  l = lists_of w
+module _ (l : Lists) (ab : pairs.Pair l.left l.right) (bytes numbers : ℕ) where
+  abbrev bound : ℕ
+  bound = proof_line_bytes * (lines_per_gate * (length l.left.gates + length l.right.gates) + lines_per_output * length l.left.outs)
 
-  bound_is : proof_line_bytes * line_bound w.left w.right ≡ proof_line_bytes * (lines_per_gate * (p.left + p.right) + lines_per_output * p.outputs)
-  bound_is = rw (w.left_gates, w.right_gates_lem, w.outputs)
+  abbrev nets : ℕ
+  nets = 1 + l.left.inputs + length l.left.gates + length l.right.gates
 
-  working_is : {nets : ℕ} → nets ≡ 1 + p.inputs + p.left + p.right → working w.left w.right ≡ numbers_per_net * nets
-  working_is are = rw (w.inputs, w.left_gates, w.right_gates_lem) (omega arith)
+  working_is : working l.left l.right ≡ numbers_per_net * nets
+  working_is = omega arith
 
-  pub due_16 : bytes < proof_line_bytes * (lines_per_gate * (p.left + p.right) + lines_per_output * p.outputs) → due bytes numbers l ≡ refused 16 0
+  pub due_16 : bytes < bound → due bytes numbers l ≡ refused 16 0
   unfolding due guard
-  due_16 h = rw (bound_is, lt-leb _ _ h)
+  due_16 h = rw (lt-leb bound bytes h)
 
-  module _ (enough : proof_line_bytes * (lines_per_gate * (p.left + p.right) + lines_per_output * p.outputs) ≤ bytes) {nets : ℕ} (are : nets ≡ 1 + p.inputs + p.left + p.right) where
+  module _ (enough : bound ≤ bytes) where
     pub due_17 : numbers < numbers_per_net * nets → due bytes numbers l ≡ refused 17 0
     unfolding due guard
-    due_17 h = rw (bound_is, le-leb _ _ enough, working_is are, lt-leb _ _ h)
+    due_17 h = rw (le-leb bound bytes enough, working_is, lt-leb _ _ h)
 
     module _ (wide : numbers_per_net * nets ≤ numbers) where
-      by_number : due bytes numbers l ≡ guard (eqb (by_reps w.left w.right) 0) 18 (by_reps w.left w.right) (ok l)
+      by_number : due bytes numbers l ≡ guard (eqb (by_reps l.left l.right) 0) 18 (by_reps l.left l.right) (ok l)
       unfolding due guard
-      by_number = rw (bound_is, le-leb _ _ enough, working_is are, le-leb _ _ wide, differing_by_reps w.left w.right w.alike)
+      by_number = rw (le-leb bound bytes enough, working_is, le-leb _ _ wide, differing_by_reps l.left l.right ab)
 
-      pub due_18 : (k : ℕ) → Some k ≡ numbered (by_reps w.left w.right) → due bytes numbers l ≡ refused 18 k
+      pub due_18 : (k : ℕ) → Some k ≡ numbered (by_reps l.left l.right) → due bytes numbers l ≡ refused 18 k
       unfolding guard
-      due_18 k e = by_number ∙ go (by_reps w.left w.right) e
+      due_18 k e = by_number ∙ go (by_reps l.left l.right) e
         where
           go : (n : ℕ) → Some k ≡ numbered n → guard (eqb n 0) 18 n (ok l) ≡ refused 18 k
           go zero e = cc
           go (suc n) e = let same : k ≡ suc n = cc in rw (same, ne_eqb (suc n) 0 (λ z. absurd (omega arith)))
 
-      pub due_proof : None ≡ numbered (by_reps w.left w.right) → due bytes numbers l ≡ ok l
+      pub due_proof : None ≡ numbered (by_reps l.left l.right) → due bytes numbers l ≡ ok l
       unfolding guard
-      due_proof e = by_number ∙ go (by_reps w.left w.right) e
+      due_proof e = by_number ∙ go (by_reps l.left l.right) e
         where
           go : (n : ℕ) → None ≡ numbered n → guard (eqb n 0) 18 n (ok l) ≡ ok l
           go zero e = refl
@@ -80,15 +76,14 @@ unfolding provable due
 of_text text bytes numbers = refl
 
 -- where the lists are refused
-pub unread : (text : List ℕ) (bytes numbers : ℕ) {number line : ℕ} → refused number line ≡ pair_of (read_lists text) → provable text bytes numbers ≡ refused number line
-unread text bytes numbers {number} {line} e = of_text text bytes numbers ∙ rw (two_none text number line e)
+pub unread : (text : List ℕ) (bytes numbers : ℕ) {number line : ℕ} → refused number line ≡ read_lists text → provable text bytes numbers ≡ refused number line
+unread text bytes numbers e = of_text text bytes numbers ∙ rw (← e)
 
 -- where they are read
-pub answered : (text : List ℕ) (bytes numbers : ℕ) (p : Pair) (f : TwoLists text p) (proof : List ℕ) (r : Result ℕ Refusal)
-    → FoldedSays (lists_of (lists_of_lem f.both)) bytes numbers proof r → AnswerSays text bytes numbers proof r
-answered text bytes numbers p f proof (Ok n) h =
-    (lists_of (lists_of_lem f.both), of_text text bytes numbers ∙ (rw f.alone h.0), h.1, h.2)
-answered text bytes numbers p f proof (Err r) h = of_text text bytes numbers ∙ (rw f.alone h)
+pub answered : (text : List ℕ) (bytes numbers : ℕ) (l : Lists) → ok l ≡ read_lists text → (proof : List ℕ) (r : Result ℕ Refusal)
+    → FoldedSays l bytes numbers proof r → AnswerSays text bytes numbers proof r
+answered text bytes numbers l e proof (Ok n) h = (l, of_text text bytes numbers ∙ rw (← e) h.0, h.1, h.2)
+answered text bytes numbers l e proof (Err r) h = of_text text bytes numbers ∙ rw (← e) h
 
 -- proof bytes that were cleared have no line
 pub none_written : {proof : List ℕ} (n : ℕ) → proof ≡ zeros n → Written proof []
@@ -98,10 +93,6 @@ none_written n e = let z : n - 0 ≡ n = omega arith in rw (e, length-replicate 
 -- ---- the promise
 
 module _ (text : List ℕ) (bytes numbers : ℕ) {proof work : List ℕ} (z : work ≡ zeros numbers) where
-  pub keeps_refusal : {number line : ℕ} → provable text bytes numbers ≡ refused number line → proof ≡ zeros bytes
-      → Engine text bytes numbers (refused number line) proof work
-  keeps_refusal e b = rw e (refl, b, z)
-
   pub keeps_proof : (l : Lists) (n : ℕ) → provable text bytes numbers ≡ ok l → Written proof (proof_of l) → length proof ≡ bytes → n ≡ length (proof_of l)
       → Engine text bytes numbers (ok n) proof work
   keeps_proof l n e w m c =

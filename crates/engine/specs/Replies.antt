@@ -9,13 +9,7 @@ use Rattle.model.specs.Engine.{line_bound, working, provable}
 use Rattle.emit_laws.specs.Proof.{proof_of}
 use Rattle.refusal.specs.declared.Refusal.{Refusal}
 use Rattle.refusal.specs.Answers.{refused_by}
-use Rattle.netlist.specs.declared.Pair.{Pair}
-use Rattle.miter.specs.Miters as miters
 use Rattle.derivation.specs.Emission.{Written}
-
--- the lists that a text has, as the definitions have them
-abbrev pub lists_of : {text : List ℕ} {p : Pair} → miters.PairStands text p → Lists
-lists_of w = record { left = w.left; right = w.right }
 
 -- what is due to lists that were read
 unfoldable pub due : ℕ → ℕ → Lists → Answer Lists

@@ -5,14 +5,14 @@
 ghost use Rattle.std.specs.Prelude.{length};
 ghost use Rattle.model.specs.Engine as model;
 ghost use Rattle.refusal.specs.Answers.{answer_of};
-ghost use Rattle.engine.specs.Replies.{lists_of, FoldedSays, AnswerSays};
-ghost use Rattle.miter.specs.Miters.{PairStands};
+ghost use Rattle.engine.specs.Replies.{FoldedSays, AnswerSays};
 
 use clearing::clear;
 use emit::pass::emit;
 use fold::pass::{first_apart, fold};
 use frame::kinds::RESOLVE_BYTES;
-use netlist::{Pair, read_lists};
+use netlist::pair::Pair;
+use netlist::read_lists;
 use refusal::{Reason, Refusal};
 
 const LINES_PER_GATE: usize = 16;
@@ -22,24 +22,23 @@ const LINES_PER_OUTPUT: usize = 12;
 const NUMBERS_PER_NET: usize = 16;
 
 // The answer to both lists, where they were read: memory is tested, then the first pass is made and the outputs compared, then the second.
-fn folded(text: &[u8], pair: Pair, proof: &mut [u8], work: &mut [u16]) -> Result<usize, Refusal>
-    requires { PairStands text.now pair }
-    ensures { (w : PairStands text.now pair) → FoldedSays (lists_of w) (length proof.old) (length work.old) proof.new result }
+fn folded(pair: &Pair<'_>, proof: &mut [u8], work: &mut [u16]) -> Result<usize, Refusal>
+    ensures { FoldedSays pair.now (length proof.old) (length work.old) proof.new result }
 {
-    let gates = pair.left + pair.right;
-    let bound = LINES_PER_GATE * gates + LINES_PER_OUTPUT * pair.outputs;
+    let parts = pair.parts();
+    let bound = LINES_PER_GATE * (parts.left + parts.right) + LINES_PER_OUTPUT * parts.outputs;
     if proof.len() < RESOLVE_BYTES * bound {
         return Err(Reason::Room.at(0));
     }
-    if work.len() < NUMBERS_PER_NET * pair.nets() {
+    if work.len() < NUMBERS_PER_NET * parts.nets() {
         return Err(Reason::Work.at(0));
     }
-    fold(text, pair, work);
-    if let Some(apart) = first_apart(text, pair, work) {
+    fold(pair, work);
+    if let Some(apart) = first_apart(pair, work) {
         return Err(Reason::Forms.at(apart));
     }
     clear(proof, 0);
-    Ok(emit(text, pair, work, proof))
+    Ok(emit(pair, work, proof))
 }
 
 // The answer, with the working numbers in use; where there is a proof, its lines stand in the proof bytes.
@@ -47,7 +46,7 @@ fn answer(text: &[u8], proof: &mut [u8], work: &mut [u16]) -> Result<usize, Refu
     ensures { AnswerSays text.now (length proof.old) (length work.old) proof.new result }
 {
     let pair = read_lists(text)?;
-    folded(text, pair, proof, work)
+    folded(&pair, proof, work)
 }
 
 // A proof for the two lists of a text, from the start of the proof bytes with zeros behind; or a refusal of the text, 16, 17, or 18 with the

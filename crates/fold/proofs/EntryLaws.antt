@@ -14,7 +14,7 @@ use Rattle.laws.specs.Literals.{literals_below}
 use Rattle.laws.specs.Pairs.{is_xor}
 use Rattle.frame.specs.declared.Op.{Op}
 use Rattle.frame.specs.declared.Gate.{Gate}
-use Rattle.listing.specs.Listing.{gate_meant}
+use Rattle.listing.specs.Gates.{gate_meant}
 use Rattle.miter.proofs.MiterLaws.{meant}
 use Rattle.model.specs.Clauses.{positive, neg}
 use Rattle.frame.specs.Frames.{op_of}

@@ -19,7 +19,7 @@ use Rattle.fold_laws.specs.Table as model
 use Rattle.fold_laws.proofs.Entries.{length_bases, length_table}
 use Rattle.fold_laws.specs.Engine.{moved_to, both_table, reps_apart, by_reps}
 use Rattle.frame.specs.declared.Gate as listing
-use Rattle.listing.specs.Listing.{gate_meant, no_gate}
+use Rattle.listing.specs.Gates.{gate_meant, no_gate}
 use Rattle.miter.specs.Miters.{z_gate}
 use Rattle.miter.proofs.MiterLaws.{z_of_lem}
 use Rattle.table.specs.Buckets.{Indexed}

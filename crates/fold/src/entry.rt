@@ -1,7 +1,7 @@
 // A gate's entry, from the table of the nets before it.
 ghost use Rattle.std.specs.Prelude.{◌≡◌, Bool, true, List, length};
 ghost use Rattle.model.specs.Nets.{reads_below};
-ghost use Rattle.listing.specs.Listing.{gate_meant};
+ghost use Rattle.listing.specs.Gates.{gate_meant};
 ghost use Rattle.fold_laws.specs.Cases.Made.{key};
 ghost use Rattle.fold_laws.specs.Table as model;
 ghost use Rattle.table.specs.Rows.{entry_of};
@@ -62,6 +62,7 @@ pub fn entry(work: &[u16], nets: usize, v: usize, gate: Gate) -> Entry
 {
     let p = representative(work, Literal::from(gate.x));
     let q = representative(work, Literal::from(gate.y));
+    // one match for both, since closures would only give the arms names
     match gate.op {
         Op::And => entered(work, nets, v, AND, false, and_of(p, q)),
         Op::Xor => entered(work, nets, v, XOR, p.sign() != q.sign(), xor_of(p, q)),

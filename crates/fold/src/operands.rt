@@ -26,7 +26,7 @@ fn and_ordered(a: Literal, b: Literal) -> Folded
     Folded::Key(a, b)
 }
 
-// The XOR of a ≤ b, which have no sign.
+// The XOR of a ≤ b, which have no sign. It stands beside the AND: of their cases only one is the same.
 #[tactic(auto, unfolding(fold_laws::specs::Cases::xor_case))]
 fn xor_ordered(a: Literal, b: Literal) -> Folded
     ensures { folded_of result ≡ model.made true a.code b.code }

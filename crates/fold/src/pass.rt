@@ -5,13 +5,12 @@ ghost use Rattle.fold_laws.specs.Table as model;
 ghost use Rattle.fold_laws.specs.Engine.{both_table, by_reps};
 ghost use Rattle.table.specs.Rows.{HoldsTable};
 ghost use Rattle.table.specs.Buckets.{Indexed, Among};
-ghost use Rattle.miter.specs.Miters.{PairStands};
 ghost use Rattle.fold.specs.Entries.{numbered};
 
 use crate::entry::entry;
 use literal::Literal;
 use miter::both::{gate_of, outputs_of};
-use netlist::Pair;
+use netlist::pair::Pair;
 use table::buckets::{empty, insert};
 use table::rows::{keyless, representative};
 
@@ -27,29 +26,26 @@ fn set_bases(work: &mut [u16], nets: usize, inputs: usize)
 }
 
 // The table of both lists.
-pub fn fold(text: &[u8], pair: Pair, work: &mut [u16])
-    requires { PairStands text.now pair × (numbers_per_net * (1 + pair.inputs + pair.left + pair.right) ≤ length work.old) }
-    ensures { (w : PairStands text.now pair) → HoldsTable work.new (both_table w.left w.right) }
+pub fn fold(pair: &Pair<'_>, work: &mut [u16])
+    requires { numbers_per_net * (1 + pair.now.left.inputs + length pair.now.left.gates + length pair.now.right.gates) ≤ length work.old }
+    ensures { HoldsTable work.new (both_table pair.now.left pair.now.right) }
 {
-    let first = pair.first_gate();
-    let gates = pair.left + pair.right;
-    let nets = pair.nets();
-    set_bases(work, nets, pair.inputs);
-    for k in 0..gates {
-        let v = first + k;
-        let gate = gate_of(text, pair, k);
-        let own = entry(work, nets, v, gate);
+    let parts = pair.parts();
+    let nets = parts.nets();
+    set_bases(work, nets, parts.inputs);
+    for k in 0..parts.left + parts.right {
+        let v = parts.first_gate() + k;
+        let own = entry(work, nets, v, gate_of(pair, k));
         insert(work, nets, v, own);
     }
 }
 
 // The first output whose representatives differ, from 1.
-pub fn first_apart(text: &[u8], pair: Pair, work: &[u16]) -> Option<usize>
-    requires { PairStands text.now pair }
-    ensures { (w : PairStands text.now pair) → HoldsTable work.now (both_table w.left w.right) → result ≡ numbered (by_reps w.left w.right) }
+pub fn first_apart(pair: &Pair<'_>, work: &[u16]) -> Option<usize>
+    ensures { HoldsTable work.now (both_table pair.now.left pair.now.right) → result ≡ numbered (by_reps pair.now.left pair.now.right) }
 {
-    for k in 0..pair.outputs {
-        let gate = outputs_of(text, pair, k);
+    for k in 0..pair.parts().outputs {
+        let gate = outputs_of(pair, k);
         let x = representative(work, Literal::from(gate.x));
         let y = representative(work, Literal::from(gate.y));
         if x != y {

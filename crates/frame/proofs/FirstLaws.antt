@@ -1,13 +1,14 @@
 -- What an answer of the cursor's reader says of the lines: the cases of `first` taken apart, for the readers of lists and proofs.
-use Prim.Native.Nat.{ℕ, suc}
+use Prim.Native.Nat.{ℕ, suc, ◌<◌}
 use mathlib.Core.Path.{◌≡◌, refl, sym}
 use mathlib.Core.List.{List, [], ◌∷◌}
 use native.Mathlib.Omega.{arith}
+use lib.ListN.{length, length-drop}
 use Rattle.model.specs.Answers.{Answer}
 use Rattle.model.specs.Answers.Answer.{ok, refused}
 use Rattle.model.specs.Lines.{Line}
 use Rattle.model.specs.Frames.{Frame, frame_at}
-use Rattle.frame.specs.Frames.{first, first_in}
+use Rattle.frame.specs.Frames.{first, first_in, Behind}
 use Rattle.frame.specs.Frames.First.{none, found, fault}
 
 -- ---- no two cases are the same
@@ -68,3 +69,8 @@ first_fault (l ∷ ls) line {number} {place} e = go (frame_at l line) refl e
     go : (a : Answer Frame) → frame_at l line ≡ a → fault number place ≡ first_in a ls (suc line) → Faulted (l ∷ ls) line number place
     go (ok g) r e = absurd (found_fault (sym e))
     go (refused n p) r e = record { line_is = l; rest = ls; cut = refl; refusal = cc }
+
+-- ---- what is left behind some bytes
+
+pub shorter : {text rest : List ℕ} → Behind text rest → length rest < length text
+shorter {text} b = rw b.cut (rw length-drop (omega (arith, b.some, b.within)))

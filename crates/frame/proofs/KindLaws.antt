@@ -8,7 +8,7 @@ use native.Mathlib.Omega.{arith}
 use Rattle.std.specs.Prelude.{Option, Some, None}
 use Rattle.std.specs.Option.{ok_or}
 use Rattle.std.proofs.lemmas.List.Sums.{prefix_len-le-length}
-use lib.ListN.{length, take, drop, get_or, length-drop}
+use lib.ListN.{length, take, drop, get_or}
 use lib.Dec.{eqb, ltb}
 use borrow.Author.Tests.{ltb-true, ltb-false, eqb-true, eqb-false, ne_eqb}
 use Rattle.model.specs.Answers.{Answer}
@@ -27,7 +27,7 @@ use Rattle.frame.specs.declared.kinds.Kind.TheVariants.{Header, Gate, Output, Re
 use Rattle.refusal.specs.declared.Reason.TheVariants.{Frame as Wrong}
 use Rattle.frame.specs.Frames.{first, first_in}
 use Rattle.frame.specs.Frames.First.{found}
-use Rattle.frame.specs.Kinds.{operands_kind, byte_of, IsOp, Spell, Named, IsKind, KindAt, KindSays, Unframed}
+use Rattle.frame.specs.Kinds.{operands_kind, byte_of, IsOp, Spell, Named, IsKind, HasKind, KindSays, Unframed}
 use Rattle.frame.proofs.DecodeLaws.{no_kind, short}
 use Rattle.frame.proofs.FieldLaws.{part_long, kind_spelt}
 use Rattle.frame.proofs.FirstLaws.{none_found, found_fault}
@@ -85,36 +85,35 @@ named_byte byte high low h eh el k n =
 
 -- ---- the kind of a line
 
-module _ (text : List ℕ) (at : ℕ) (room : at + one_byte ≤ length text) where
-  known : (kind : ℕ) → Spell (get_or text at 0) (get_or text (at + 1) 0) kind → KindAt text at kind
+module _ (text : List ℕ) (room : one_byte ≤ length text) where
+  known : (kind : ℕ) → Spell (get_or text 0 0) (get_or text 1 0) kind → HasKind text kind
   known kind s =
-      let one = run_more text at (omega arith) s.high_digit in
-      let f : at + 1 + 1 ≡ at + 2 = omega arith in
-      let two = rw f at (run_more text (at + 1) (omega arith) s.low_digit) in
-      record { room = room; goes = omega arith; spelt = s.spelt ∙ sym (byte_number text at room) }
+      let one = run_more text 0 (omega arith) s.high_digit in
+      let two = run_more text 1 (omega arith) s.low_digit in
+      record { room = room; goes = omega arith; spelt = s.spelt ∙ sym (byte_number text 0 room) }
 
-  unknown : (is_digit (get_or text at 0) ≡ true → is_digit (get_or text (at + 1) 0) ≡ true → is_kind (widths (16 * value_of (get_or text at 0) + value_of (get_or text (at + 1) 0))) ≡ false) → Unframed text at
-  unknown none n line e h f = go (is_digit (get_or text at 0)) (is_digit (get_or text (at + 1) 0)) refl refl
+  unknown : (is_digit (get_or text 0 0) ≡ true → is_digit (get_or text 1 0) ≡ true → is_kind (widths (16 * value_of (get_or text 0 0) + value_of (get_or text 1 0))) ≡ false) → Unframed text
+  unknown none n line e h f = go (is_digit (get_or text 0 0)) (is_digit (get_or text 1 0)) refl refl
     where
-      go : (t u : Bool) → is_digit (get_or text at 0) ≡ t → is_digit (get_or text (at + 1) 0) ≡ u → refused 3 line ≡ decode (values (take n (drop at text))) line
+      go : (t u : Bool) → is_digit (get_or text 0 0) ≡ t → is_digit (get_or text 1 0) ≡ u → refused 3 line ≡ decode (values (take n text)) line
       go true true t u =
           let k = known _ (record { high_digit = t; low_digit = u; spelt = refl }) in
-          no_kind (take n (drop at text)) line (kind_spelt text at _ n k (omega (arith, k.goes))) refl (none t u)
+          no_kind (take n text) line (kind_spelt text _ n k (omega (arith, k.goes))) refl (none t u)
       go true false t u =
-          let one = run_more text at (omega arith) t in
-          let two = run_stop text (at + 1) (omega arith) u in
-          short (take n (drop at text)) line (omega (arith, part_long text at n h))
+          let one = run_more text 0 (omega arith) t in
+          let two = run_stop text 1 (omega arith) u in
+          short (take n text) line (omega (arith, part_long text n h))
       go false u t _ =
-          let one = run_stop text at (omega arith) t in
-          short (take n (drop at text)) line (omega (arith, part_long text at n h))
+          let one = run_stop text 0 (omega arith) t in
+          short (take n text) line (omega (arith, part_long text n h))
 
-  pub kind_says : (k : Option Kind) → Named (get_or text at 0) (get_or text (at + 1) 0) k → KindSays text at k
+  pub kind_says : (k : Option Kind) → Named (get_or text 0 0) (get_or text 1 0) k → KindSays text k
   kind_says (Some k) s = known (byte_of k) s
   kind_says None none = unknown none
 
 -- less than two bytes
-pub unframed_short : (text : List ℕ) (at : ℕ) → length text < at + one_byte → Unframed text at
-unframed_short text at r n line e h f = short (take n (drop at text)) line (omega (arith, part_long text at n h))
+pub unframed_short : (text : List ℕ) → length text < one_byte → Unframed text
+unframed_short text r n line e h f = short (take n text) line (omega (arith, part_long text n h))
 
 -- ---- the kind of a byte
 
@@ -142,52 +141,52 @@ back Report = refl
 -- ---- a line that has a frame
 
 -- the digits of the line, decoded
-record Decoded (text : List ℕ) (at line : ℕ) (f : Frame) : Type 0 where
-  inside : at + run (drop at text) < length text
-  feed : get_or text (at + run (drop at text)) 0 ≡ line_feed
-  frame : decode (values (take (run (drop at text)) (drop at text))) line ≡ ok f
+record Decoded (text : List ℕ) (line : ℕ) (f : Frame) : Type 0 where
+  inside : run text < length text
+  feed : get_or text (run text) 0 ≡ line_feed
+  frame : decode (values (take (run text) text)) line ≡ ok f
 
 decode_kind : (ds : List ℕ) (line : ℕ) {f : Frame} → decode ds line ≡ ok f → f.kind ≡ number 0 (take one_byte ds)
 unfolding decode decode_as
 decode_kind ds line e = sym (ap (λ (f : Frame). f.kind) (ok_injective (guard_ok _ 3 line _ e).1))
 
-module _ (text : List ℕ) (at line : ℕ) {f : Frame} {ls : List model.Line} {next : ℕ} (i : at ≤ length text) (e : found f ls next ≡ first (lines (drop at text)) line) where
-  found_decoded : Decoded text at line f
-  found_decoded = start (eqb at (length text)) refl
+module _ (text : List ℕ) (line : ℕ) {f : Frame} {ls : List model.Line} {next : ℕ} (e : found f ls next ≡ first (lines text) line) where
+  found_decoded : Decoded text line f
+  found_decoded = start (eqb (length text) 0) refl
     where
       n : ℕ
-      n = run (drop at text)
+      n = run text
 
-      same : (a : Answer Frame) → found f ls next ≡ first_in a (lines (drop (at + n + 1) text)) (suc line) → a ≡ ok f
+      same : (a : Answer Frame) → found f ls next ≡ first_in a (lines (drop (suc n) text)) (suc line) → a ≡ ok f
       same (ok g) q = cc
       same (refused number place) q = absurd (found_fault q)
 
-      go : (at ≡ length text → ⊥) → (b : Bool) → ltb (at + n) (length text) ≡ b → (d : Bool) → eqb (get_or text (at + n) 0) line_feed ≡ d → Decoded text at line f
+      go : (length text ≡ 0 → ⊥) → (b : Bool) → ltb n (length text) ≡ b → (d : Bool) → eqb (get_or text n 0) line_feed ≡ d → Decoded text line f
       go _ true b true d =
-          let h = ltb-true (at + n) (length text) b in
-          let l = eqb-true (get_or text (at + n) 0) line_feed d in
-          record { inside = h; feed = l; frame = same _ (e ∙ read_whole text at line n refl h l) }
-      go _ true b false d = absurd (found_fault (e ∙ read_other text at line n refl (ltb-true (at + n) (length text) b) (eqb-false (get_or text (at + n) 0) line_feed d)))
-      go m false b d _ = absurd (found_fault (e ∙ read_open text at line n refl (omega arith) (omega (arith, ltb-false (at + n) (length text) b, rw length-drop at (prefix_len-le-length is_digit (drop at text))))))
+          let h = ltb-true n (length text) b in
+          let l = eqb-true (get_or text n 0) line_feed d in
+          record { inside = h; feed = l; frame = same _ (e ∙ read_whole text line n refl h l) }
+      go _ true b false d = absurd (found_fault (e ∙ read_other text line n refl (ltb-true n (length text) b) (eqb-false (get_or text n 0) line_feed d)))
+      go m false b d _ = absurd (found_fault (e ∙ read_open text line n refl (omega arith) (omega (arith, ltb-false n (length text) b, prefix_len-le-length is_digit text))))
 
-      start : (t : Bool) → eqb at (length text) ≡ t → Decoded text at line f
-      start true t = absurd (none_found (sym (e ∙ read_end text at line n refl (omega (arith, eqb-true at (length text) t)))))
-      start false t = go (eqb-false at (length text) t) (ltb (at + n) (length text)) refl (eqb (get_or text (at + n) 0) line_feed) refl
+      start : (t : Bool) → eqb (length text) 0 ≡ t → Decoded text line f
+      start true t = absurd (none_found (sym (e ∙ read_end text line n refl (eqb-true (length text) 0 t))))
+      start false t = go (eqb-false (length text) 0 t) (ltb n (length text)) refl (eqb (get_or text n 0) line_feed) refl
 
   -- its kind is what its first two digits spell
-  pub found_kind : {kind : ℕ} → KindAt text at kind → f.kind ≡ kind
+  pub found_kind : {kind : ℕ} → HasKind text kind → f.kind ≡ kind
   unfolding number_at
   found_kind {kind} k =
       let d = found_decoded in
-      decode_kind _ line d.frame ∙ sym (kind_spelt text at kind (run (drop at text)) k (omega (arith, k.goes)))
+      decode_kind _ line d.frame ∙ sym (kind_spelt text kind (run text) k (omega (arith, k.goes)))
 
   -- and it is not refused
-  pub found_framed : Unframed text at → ⊥
+  pub found_framed : Unframed text → ⊥
   found_framed u =
       let d = found_decoded in
-      refused_not_ok (u (run (drop at text)) line refl d.inside d.feed ∙ d.frame)
+      refused_not_ok (u (run text) line refl d.inside d.feed ∙ d.frame)
 
   -- so its kind is no other
-  pub only : (due : Kind) → f.kind ≡ byte_of due → (k : Option Kind) → KindSays text at k → k ≡ Some due
+  pub only : (due : Kind) → f.kind ≡ byte_of due → (k : Option Kind) → KindSays text k → k ≡ Some due
   only due is (Some k) s = sym (back k) ∙ ap kind_back (sym (found_kind s) ∙ is) ∙ back due
   only due is None s = absurd (found_framed s)

@@ -8,3 +8,4 @@ pub mod PutLaws
 pub mod RoundTrip
 pub mod FirstLaws
 pub mod RowLaws
+pub mod OpLaws

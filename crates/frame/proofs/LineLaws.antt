@@ -1,4 +1,4 @@
--- Laws of lines: how the lines of a text begin, by the run of digits at its start, and the four ways in which reading at a cursor ends.
+-- Laws of lines: how the lines of a text begin, by the run of digits at its start, and the four ways in which reading its first line ends.
 -- The argument is by induction over the bytes: a digit before a line becomes its first digit, and a line that is faulty stays so.
 use Prim.Native.Nat.{ℕ, suc, ◌+◌, ◌<◌, ◌≤◌}
 use mathlib.Core.Path.{◌≡◌, refl, sym, ◌∙◌}
@@ -6,9 +6,9 @@ use mathlib.Core.List.{List, [], ◌∷◌}
 use mathlib.Core.Bool.{Bool, true, false, cond}
 use native.Mathlib.Omega.{arith}
 use native.Mathlib.Numerals.{one-add}
-use lib.ListN.{length, take, drop, get_or, length-drop, drop_of_length-le}
-use lib.Seq.{get_or-drop, drop-drop}
-use borrow.Author.Tests.{eq-eqb, ne_eqb}
+use lib.ListN.{length, take, drop, get_or}
+use lib.Dec.{ltb}
+use borrow.Author.Tests.{eq-eqb, ne_eqb, ltb-true, ltb-false}
 use Rattle.model.specs.Lines.{Line, is_digit, line_feed, with_byte, prepend, lines}
 use Rattle.model.specs.Lines.Line.{digits, faulty}
 use Rattle.model.specs.Frames.{decode, frame_at}
@@ -75,32 +75,38 @@ lines_whole (b ∷ s) h e = go (lines_whole s) (is_digit b) refl h e
         (lines_digit b s (digits (values (take (run s) s))) (lines (drop (suc (run s)) s)) i (f (omega arith) (rw one-add at e)) ∙ rw i)
     go f false i h e = rw (eq-eqb b line_feed e)
 
--- ---- reading at a place, with n digits there
+-- ---- reading the first line of a text, which begins with n digits
 
-module _ (text : List ℕ) (at line n : ℕ) (e : n ≡ run (drop at text)) where
-  pub read_end : length text ≤ at → first (lines (drop at text)) line ≡ none
+module _ (text : List ℕ) (line n : ℕ) (e : n ≡ run text) where
+  pub read_end : length text ≡ 0 → first (lines text) line ≡ none
   unfolding first lines
-  read_end h = rw (drop_of_length-le text h)
+  read_end h = rw (empty text h)
+    where
+      empty : (l : List ℕ) → length l ≡ 0 → l ≡ []
+      empty [] e = refl
+      empty (b ∷ l) e = absurd (omega arith)
 
-  pub read_open : at < length text → at + n ≡ length text → first (lines (drop at text)) line ≡ fault 2 line
+  pub read_open : 0 < length text → n ≡ length text → first (lines text) line ≡ fault 2 line
   unfolding first frame_at
-  read_open h k =
-      rw (lines_open (drop at text) (rw length-drop (omega arith)) (sym e ∙ rw length-drop (omega arith)))
+  read_open h k = rw (lines_open text h (sym e ∙ k))
 
-  pub read_other : at + n < length text → (get_or text (at + n) 0 ≡ line_feed → ⊥) → first (lines (drop at text)) line ≡ fault 2 line
+  pub read_other : n < length text → (get_or text n 0 ≡ line_feed → ⊥) → first (lines text) line ≡ fault 2 line
   unfolding first frame_at
-  read_other h k =
-      let r = lines_other (drop at text) (rw (← e, length-drop) (omega arith)) (λ z. k (sym (get_or-drop at text n 0) ∙ rw (← e) at z)) in
-      rw r.1
+  read_other h k = let r = lines_other text (rw (← e) h) (λ z. k (rw (← e) at z)) in rw r.1
 
-  pub read_whole : at + n < length text → get_or text (at + n) 0 ≡ line_feed
-      → first (lines (drop at text)) line ≡ first_in (decode (values (take n (drop at text))) line) (lines (drop (at + n + 1) text)) (suc line)
+  pub read_whole : n < length text → get_or text n 0 ≡ line_feed
+      → first (lines text) line ≡ first_in (decode (values (take n text)) line) (lines (drop (suc n) text)) (suc line)
   unfolding first frame_at
-  read_whole h k =
-      let m : at + n + 1 ≡ at + suc n = omega arith in
-      let w = lines_whole (drop at text) (rw (← e, length-drop) (omega arith)) (rw (← e) (get_or-drop at text n 0 ∙ k)) in
-      rw (w, ← e, drop-drop (suc n) at text, m)
+  read_whole h k = let w = lines_whole text (rw (← e) h) (rw (← e) k) in rw (w, ← e)
 
-  -- the same where the line has no frame
-  pub read_unframed : at + n < length text → get_or text (at + n) 0 ≡ line_feed → Unframed text at → fault 3 line ≡ first (lines (drop at text)) line
+  -- where LF does not stand behind the digits
+  pub read_faulty : 0 < length text → n ≤ length text → (n < length text → get_or text n 0 ≡ line_feed → ⊥) → fault 2 line ≡ first (lines text) line
+  read_faulty h k not = go (ltb n (length text)) refl
+    where
+      go : (t : Bool) → ltb n (length text) ≡ t → fault 2 line ≡ first (lines text) line
+      go true t = let i = ltb-true n (length text) t in sym (read_other i (not i))
+      go false t = sym (read_open h (omega (arith, ltb-false n (length text) t)))
+
+  -- where LF does, and the line has no frame
+  pub read_unframed : n < length text → get_or text n 0 ≡ line_feed → Unframed text → fault 3 line ≡ first (lines text) line
   read_unframed h k u = sym (read_whole h k ∙ rw (← u n line e h k))

@@ -1,15 +1,14 @@
--- A lone line, by what stands first in its text and then behind that: the definition goes by lines, the reader by two readings at a cursor.
+-- A lone line, by what stands first in its text and then behind that: the definition goes by lines, the reader by reading a line twice.
 use Prim.Native.Nat.{ℕ, suc}
 use mathlib.Core.Path.{◌≡◌, refl, sym, ap, ◌∙◌}
 use mathlib.Core.List.{List, [], ◌∷◌}
-use lib.ListN.{drop}
 use Rattle.model.specs.Answers.{Answer, bind}
 use Rattle.model.specs.Answers.Answer.{ok, refused}
 use Rattle.model.specs.Lines.{Line, lines}
 use Rattle.model.specs.Frames.{Frame, frame_at, end_at, lone_of, lone_line}
 use Rattle.std.specs.Prelude.{Option, Some, Result, Ok}
 use Rattle.refusal.specs.declared.Refusal.{Refusal}
-use Rattle.frame.specs.declared.Cursor.{Cursor}
+use Rattle.frame.specs.declared.cursor.Cursor.{Cursor}
 use Rattle.frame.specs.declared.Frame as CodeFrame
 use Rattle.frame.specs.Frames.{First, first, first_in, first_of, frame_of}
 use Rattle.frame.specs.Frames.First.{none, found, fault}
@@ -44,13 +43,14 @@ lone_by_lem (l ∷ ls) = go (frame_at l 1)
     go (ok f) = end_by_lem ls 2 f
     go (refused number place) = refl
 
--- by what the reader finds at the start
-pub lone : (text : List ℕ) (r : Result (Option (CodeFrame.Frame × Cursor)) Refusal) → first_of text r ≡ first (lines text) 1 → lone_by (first_of text r) ≡ lone_line text
-unfolding lone_line
-lone text r e = ap lone_by e ∙ sym (lone_by_lem (lines text))
+module _ (text : List ℕ) {left : List ℕ} {line : ℕ} (start : (left ≡ text) × (line ≡ 1)) where
+  -- by what the reader finds at the start
+  pub lone : (r : Result (Option (CodeFrame.Frame × Cursor)) Refusal) → first_of r ≡ first (lines left) line → lone_by (first_of r) ≡ lone_line text
+  unfolding lone_line
+  lone r e = ap lone_by (rw (start.0, start.1) at e) ∙ sym (lone_by_lem (lines text))
 
--- where a frame stands there, by what the reader finds behind it
-pub lone_behind : (text : List ℕ) (f : CodeFrame.Frame) (next : Cursor) (second : Result (Option (CodeFrame.Frame × Cursor)) Refusal)
-    → first_of text (Ok (Some (f, next))) ≡ first (lines text) 1 → first_of text second ≡ first (lines (drop next.at text)) next.line
-    → end_by (first_of text second) next.line (frame_of f) ≡ lone_line text
-lone_behind text f next second e e' = ap (λ (x : First). end_by x next.line (frame_of f)) e' ∙ lone text (Ok (Some (f, next))) e
+  -- where a frame stands there, by what the reader finds behind it
+  pub lone_behind : (f : CodeFrame.Frame) (next : Cursor) (second : Result (Option (CodeFrame.Frame × Cursor)) Refusal)
+      → first_of (Ok (Some (f, next))) ≡ first (lines left) line → first_of second ≡ first (lines next.rest.now) next.line
+      → end_by (first_of second) next.line (frame_of f) ≡ lone_line text
+  lone_behind f next second e e' = ap (λ (x : First). end_by x next.line (frame_of f)) e' ∙ lone (Ok (Some (f, next))) e

@@ -8,7 +8,7 @@ use Rattle.model.specs.Frames as model
 use Rattle.model.specs.Nets as nets
 use Rattle.refusal.specs.declared.Refusal.{Refusal}
 use Rattle.refusal.specs.Answers.{number_of, answer_by, answer_of}
-use Rattle.frame.specs.declared.Cursor.{Cursor}
+use Rattle.frame.specs.declared.cursor.Cursor.{Cursor}
 use Rattle.frame.specs.declared.Op.{Op}
 use Rattle.frame.specs.declared.Op.TheVariants.{And, Xor}
 use Rattle.frame.specs.declared.Frame.{Frame}
@@ -40,10 +40,10 @@ report refusal line steps clauses = record { kind = model.report_kind; fields = 
 
 abbrev pub frame_of : Frame → model.Frame
 frame_of (Header i g o) = record { kind = model.header_kind; fields = i ∷ g ∷ o ∷ [] }
-frame_of (Gate op x y) = record { kind = gate_kind op; fields = x ∷ y ∷ [] }
+frame_of (Gate g) = record { kind = gate_kind g.op; fields = g.x ∷ g.y ∷ [] }
 frame_of (Output l) = record { kind = model.output_kind; fields = l ∷ [] }
-frame_of (Resolve a b v) = resolve a b v
-frame_of (Extend op x y) = record { kind = extend_kind op; fields = x ∷ y ∷ [] }
+frame_of (Resolve s) = resolve s.first s.second s.variable
+frame_of (Extend g) = record { kind = extend_kind g.op; fields = g.x ∷ g.y ∷ [] }
 frame_of (Report r n s c) = report r n s c
 
 -- ---- answers
@@ -71,27 +71,29 @@ unfoldable pub first : List model_lines.Line → ℕ → First
 first [] line = none
 first (l ∷ ls) line = first_in (model.frame_at l line) ls (suc line)
 
--- the same of what the reader answers: a cursor stands for the lines from its place on
-abbrev pub first_of : List ℕ → Result (Option (Frame × Cursor)) Refusal → First
-first_of text (Ok (Some (f, next))) = found (frame_of f) (lines (drop next.at text)) next.line
-first_of text (Ok None) = none
-first_of text (Err r) = fault (number_of r.reason) r.line
+-- the same of what the reader answers: a cursor stands for the lines that are left
+abbrev pub first_of : Result (Option (Frame × Cursor)) Refusal → First
+first_of (Ok (Some (f, next))) = found (frame_of f) (lines next.rest.now) next.line
+first_of (Ok None) = none
+first_of (Err r) = fault (number_of r.reason) r.line
 
 -- and where no frame was read
 abbrev pub left_of : Result (Unit {0}) Refusal → First
 left_of (Ok _) = none
 left_of (Err r) = fault (number_of r.reason) r.line
 
--- A cursor in a text. Every line has a byte, so a line's number cannot outrun its place.
-pub record Inside (text : List ℕ) (c : Cursor) : Type 0 where
-  pub at : c.at ≤ length text
-  pub line : c.line ≤ suc c.at
+-- what is left of a text behind some of its bytes
+pub record Behind (text rest : List ℕ) : Type 0 where
+  pub bytes : ℕ
+  pub some : 0 < bytes
+  pub within : bytes ≤ length text
+  pub cut : rest ≡ drop bytes text
 
--- the cursor behind a frame that was read is in the text, and farther on
-abbrev pub Ahead : List ℕ → ℕ → Result (Option (Frame × Cursor)) Refusal → Type 0
-Ahead text at (Ok (Some (f, next))) = Inside text next × (at < next.at)
-Ahead text at (Ok None) = Unit {0}
-Ahead text at (Err r) = Unit {0}
+-- the cursor behind a frame that was read is farther on in the text
+abbrev pub Ahead : List ℕ → Result (Option (Frame × Cursor)) Refusal → Type 0
+Ahead text (Ok (Some (f, next))) = Behind text next.rest.now
+Ahead text (Ok None) = Unit {0}
+Ahead text (Err r) = Unit {0}
 
 -- ---- writing
 

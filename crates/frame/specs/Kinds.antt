@@ -49,16 +49,16 @@ abbrev pub IsKind : ℕ → Result Kind Reason → Type 0
 IsKind byte (Ok k) = byte ≡ byte_of k
 IsKind byte (Err why) = (why ≡ Wrong) × (is_kind (widths byte) ≡ false)
 
--- the first two digits at a place spell this kind
-pub record KindAt (text : List ℕ) (at kind : ℕ) : Type 0 where
-  pub room : at + one_byte ≤ length text
-  pub goes : run (drop at text) ≡ one_byte + run (drop (at + one_byte) text)
-  pub spelt : kind ≡ number_at text at one_byte
+-- the first two digits of a text spell this kind
+pub record HasKind (text : List ℕ) (kind : ℕ) : Type 0 where
+  pub room : one_byte ≤ length text
+  pub goes : run text ≡ one_byte + run (drop one_byte text)
+  pub spelt : kind ≡ number_at text 0 one_byte
 
--- a whole line at a place is refused, whatever its number
-abbrev pub Unframed : List ℕ → ℕ → Type 0
-Unframed text at = (n line : ℕ) → n ≡ run (drop at text) → at + n < length text → get_or text (at + n) 0 ≡ line_feed → refused 3 line ≡ decode (values (take n (drop at text))) line
+-- a text's first line is refused if it is whole, whatever its number
+abbrev pub Unframed : List ℕ → Type 0
+Unframed text = (n line : ℕ) → n ≡ run text → n < length text → get_or text n 0 ≡ line_feed → refused 3 line ≡ decode (values (take n text)) line
 
--- the line at a place is of this kind, or it is of none and refused
-abbrev pub KindSays : List ℕ → ℕ → Option Kind → Type 0
-KindSays text at k = ByKind (KindAt text at) (Unframed text at) k
+-- the first line is of this kind, or it is of none and refused
+abbrev pub KindSays : List ℕ → Option Kind → Type 0
+KindSays text k = ByKind (HasKind text) (Unframed text) k

@@ -22,7 +22,7 @@ pub struct Field {
 }
 
 impl Field {
-    // Where a kind has no further field.
+    // Where a kind has no further field. No `Option`: no digit is written for it, and so all four go one way.
     pub const NONE: Field = Field { value: 0, width: 0 };
 
     // A line number, which is the only field of three bytes.
@@ -72,6 +72,7 @@ impl Fields {
     }
 }
 
+// An arm for each kind, its fields in the table's order. (49 lines, since the format gives each field of a pattern its own.)
 pub fn fields_of(frame: Frame) -> Fields
     ensures { Spells result (frame_of frame) }
 {
@@ -84,25 +85,26 @@ pub fn fields_of(frame: Frame) -> Fields
             kind: Kind::Header.into(),
             fields: [inputs.into(), gates.into(), outputs.into(), Field::NONE],
         },
-        Frame::Gate { op, x, y } => Fields {
-            kind: Kind::Gate(op).into(),
-            fields: [x.into(), y.into(), Field::NONE, Field::NONE],
+        Frame::Gate(gate) => Fields {
+            kind: Kind::Gate(gate.op).into(),
+            fields: [gate.x.into(), gate.y.into(), Field::NONE, Field::NONE],
         },
         Frame::Output { literal } => Fields {
             kind: Kind::Output.into(),
             fields: [literal.into(), Field::NONE, Field::NONE, Field::NONE],
         },
-        Frame::Resolve {
-            first,
-            second,
-            variable,
-        } => Fields {
+        Frame::Resolve(step) => Fields {
             kind: Kind::Resolve.into(),
-            fields: [first.into(), second.into(), variable.into(), Field::NONE],
+            fields: [
+                step.first.into(),
+                step.second.into(),
+                step.variable.into(),
+                Field::NONE,
+            ],
         },
-        Frame::Extend { op, x, y } => Fields {
-            kind: Kind::Extend(op).into(),
-            fields: [x.into(), y.into(), Field::NONE, Field::NONE],
+        Frame::Extend(gate) => Fields {
+            kind: Kind::Extend(gate.op).into(),
+            fields: [gate.x.into(), gate.y.into(), Field::NONE, Field::NONE],
         },
         Frame::Report {
             refusal,
@@ -127,10 +129,10 @@ pub fn line_len(frame: Frame) -> usize
 {
     match frame {
         Frame::Header { .. } => HEADER_BYTES,
-        Frame::Gate { .. } => GATE_BYTES,
+        Frame::Gate(_) => GATE_BYTES,
         Frame::Output { .. } => OUTPUT_BYTES,
-        Frame::Resolve { .. } => RESOLVE_BYTES,
-        Frame::Extend { .. } => EXTEND_BYTES,
+        Frame::Resolve(_) => RESOLVE_BYTES,
+        Frame::Extend(_) => EXTEND_BYTES,
         Frame::Report { .. } => REPORT_BYTES,
     }
 }
@@ -152,7 +154,7 @@ pub fn digit_of(d: u8) -> u8
     if d < 10 { b'0' + d } else { b'A' - 10 + d }
 }
 
-// The lowest digits of n, as many as width says, written from a place on; the place behind them.
+// The lowest digits of n, as many as width says, written from a place on; the place behind them. No `Display`: what formatting writes has no contract.
 pub fn put_hex(out: &mut [u8], at: usize, n: usize, width: usize) -> usize
     requires { at + width ≤ length out.old }
     ensures { (result ≡ at + width) × (out.new ≡ sets out.old at (hex width n)) }

@@ -1,6 +1,6 @@
 // The table of kinds (document 01, 'Lines on the wire'): each kind with its byte and the length of its line. What a line is due to be is decided
 // here, by one match on the two digits of its kind byte, for a lone line as for the lines that long texts are made of.
-ghost use Rattle.std.specs.Prelude.{◌≡◌, ◌≤◌, length};
+ghost use Rattle.std.specs.Prelude.{◌≡◌};
 ghost use Rattle.frame.specs.Kinds.{byte_of, IsOp, Named, IsKind, KindSays};
 
 use crate::Op;
@@ -82,13 +82,12 @@ fn spelt_kind(high: u8, low: u8) -> Option<Kind>
     }
 }
 
-// The kind of the line at a place.
-pub fn kind_at(text: &[u8], at: usize) -> Option<Kind>
-    requires { at ≤ length text.now }
-    ensures { KindSays text.now at result }
+// The kind of a text's first line.
+pub fn kind_of(text: &[u8]) -> Option<Kind>
+    ensures { KindSays text.now result }
 {
-    if text.len() - at < 2 {
+    if text.len() < 2 {
         return None;
     }
-    spelt_kind(text[at], text[at + 1])
+    spelt_kind(text[0], text[1])
 }

@@ -2,6 +2,7 @@
 // Every text gets an answer: nothing here asks anything of the bytes that it is given.
 #![tactic(auto)]
 
+pub mod cursor; // what is left of a text
 pub mod fields; // a frame as its kind and fields, for writing
 pub mod kinds; // the table of kinds
 pub mod read; // the fields of a line, by its kind
@@ -9,26 +10,20 @@ pub mod report; // a report's line
 pub mod rows; // the lines that stand in rows
 pub mod resolves; // a resolve's line, written without a loop
 
-ghost use Rattle.std.specs.Prelude.{◌≡◌, ℕ, ◌<◌, ◌≤◌, drop, length};
+ghost use Rattle.std.specs.Prelude.{◌≡◌, ℕ, ◌<◌, length};
 ghost use Rattle.model.specs.Lines.{lines};
 ghost use Rattle.model.specs.Frames.{lone_line, write_frame, written_frame};
 ghost use Rattle.refusal.specs.Answers.{number_of};
-ghost use Rattle.frame.specs.Frames.{frame_of, decoded_of, written_of, first, first_of, left_of, Inside, Ahead};
+ghost use Rattle.frame.specs.Frames.{frame_of, decoded_of, written_of, first, first_of, left_of, Ahead};
 ghost use Rattle.frame.specs.Frames.First.{fault};
 ghost use Rattle.frame.specs.Kinds.{Unframed};
 
 use clearing::clear;
-use digits::digits_at;
+use cursor::Cursor;
+use digits::digits_of;
 use fields::{line_len, line_number_fits, write_line};
-use read::frame_at;
+use read::first_frame;
 use refusal::{Reason, Refusal};
-
-// A place in a text: the next byte, and the number of its line, from 1.
-#[derive(Clone, Copy, PartialEq, Eq)]
-pub struct Cursor {
-    pub at: usize,
-    pub line: usize,
-}
 
 #[derive(Clone, Copy, PartialEq, Eq)]
 pub enum Op {
@@ -60,24 +55,13 @@ pub enum Frame {
         gates: u16,
         outputs: u8,
     },
-    Gate {
-        op: Op,
-        x: u16,
-        y: u16,
-    },
+    Gate(Gate),
     Output {
         literal: u16,
     },
-    Resolve {
-        first: u16,
-        second: u16,
-        variable: u16,
-    },
-    Extend {
-        op: Op,
-        x: u16,
-        y: u16,
-    },
+    Resolve(Resolve),
+    // The next variable as a gate.
+    Extend(Gate),
     // A reply's line may be any number; only one of three bytes can be written.
     Report {
         refusal: u8,
@@ -87,58 +71,54 @@ pub enum Frame {
     },
 }
 
-impl From<Resolve> for Frame {
+// A refusal's report.
+impl From<Refusal> for Frame {
+    ghost use Rattle.refusal.specs.Answers.{number_of};
     ghost use Rattle.frame.specs.declared.Frame.{Frame};
 
-    ghost from_gives = { λ step frame. frame ≡ Frame.Resolve step.first step.second step.variable };
+    ghost from_gives = { λ refusal frame. frame ≡ Frame.Report (number_of refusal.reason) refusal.line 0 0 };
 
-    fn from(step: Resolve) -> Frame {
-        Frame::Resolve {
-            first: step.first,
-            second: step.second,
-            variable: step.variable,
+    fn from(refusal: Refusal) -> Frame {
+        Frame::Report {
+            refusal: refusal.reason.number(),
+            line: refusal.line,
+            steps: 0,
+            clauses: 0,
         }
     }
 }
 
-// Why a line has no frame: its first byte that is no digit is no LF either, or the text ends before one; else its digits are none.
-fn fault_at(text: &[u8], at: usize) -> Reason
-    requires { at ≤ length text.now }
-    ensures { at < length text.now → Unframed text.now at → (line : ℕ) → fault (number_of result) line ≡ first (lines (drop at text.now)) line }
+// Why the first line has no frame: its first byte that is no digit is no LF either, or the text ends before one; else its digits are none.
+fn fault_of(text: &[u8]) -> Reason
+    ensures { 0 < length text.now → Unframed text.now → (line : ℕ) → fault (number_of result) line ≡ first (lines text.now) line }
 {
-    let end = at + digits_at(text, at);
-    if end == text.len() {
-        return Reason::Bytes;
+    if text.get(digits_of(text)) == Some(&b'\n') {
+        return Reason::Frame;
     }
-    if text[end] != b'\n' {
-        return Reason::Bytes;
-    }
-    Reason::Frame
+    Reason::Bytes
 }
 
-// Whether nothing stands at a cursor where no frame does; else a line, which is refused.
-fn end_at(text: &[u8], cursor: Cursor) -> Result<(), Refusal>
-    requires { Inside text.now cursor }
-    ensures { Unframed text.now cursor.at → left_of result ≡ first (lines (drop cursor.at text.now)) cursor.line }
+// Whether nothing is left at a cursor where no frame stands; else a line, which is refused.
+fn end_of(cursor: Cursor<'_>) -> Result<(), Refusal>
+    ensures { Unframed cursor.entry.rest.now → left_of result ≡ first (lines cursor.entry.rest.now) cursor.entry.line }
 {
-    if cursor.at == text.len() {
+    if cursor.rest.is_empty() {
         return Ok(());
     }
-    Err(fault_at(text, cursor.at).at(cursor.line))
+    Err(fault_of(cursor.rest).at(cursor.line))
 }
 
 // The line at a cursor as a frame, with the cursor behind it; none at the end of the text.
-pub fn read_line(text: &[u8], cursor: Cursor) -> Result<Option<(Frame, Cursor)>, Refusal>
-    requires { Inside text.now cursor }
-    ensures reads { first_of text.now result ≡ first (lines (drop cursor.at text.now)) cursor.line }
-    ensures ahead { Ahead text.now cursor.at result }
+pub fn read_line(cursor: Cursor<'_>) -> Result<Option<(Frame, Cursor<'_>)>, Refusal>
+    ensures reads { first_of result ≡ first (lines cursor.entry.rest.now) cursor.entry.line }
+    ensures ahead { Ahead cursor.entry.rest.now result }
 {
-    let Some((frame, behind)) = frame_at(text, cursor.at) else {
-        end_at(text, cursor)?;
+    let Some((frame, rest)) = first_frame(cursor.rest) else {
+        end_of(cursor)?;
         return Ok(None);
     };
     let next = Cursor {
-        at: behind,
+        rest,
         line: cursor.line + 1,
     };
     Ok(Some((frame, next)))
@@ -148,10 +128,10 @@ pub fn read_line(text: &[u8], cursor: Cursor) -> Result<Option<(Frame, Cursor)>,
 pub fn read_frame(text: &[u8]) -> Result<Frame, Refusal>
     ensures { decoded_of result ≡ lone_line text.now }
 {
-    let Some((frame, next)) = read_line(text, Cursor { at: 0, line: 1 })? else {
+    let Some((frame, next)) = read_line(Cursor::start(text))? else {
         return Err(Reason::Bytes.at(1));
     };
-    match read_line(text, next)? {
+    match read_line(next)? {
         None => Ok(frame),
         Some(_) => Err(Reason::Frame.at(next.line)),
     }
@@ -163,10 +143,7 @@ pub fn write_frame(frame: Frame, out: &mut [u8]) -> Result<usize, Refusal>
     ensures leaves { out.new ≡ written_frame (frame_of frame) (length out.old) }
 {
     clear(out, 0);
-    if !line_number_fits(frame) {
-        return Err(Reason::Room.at(0));
-    }
-    if out.len() < line_len(frame) {
+    if !line_number_fits(frame) || out.len() < line_len(frame) {
         return Err(Reason::Room.at(0));
     }
     Ok(write_line(frame, out, 0))

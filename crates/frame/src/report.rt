@@ -8,7 +8,7 @@ use crate::Frame;
 use crate::fields::write_line;
 use crate::kinds::REPORT_BYTES;
 
-// The line, with its LF.
+// The line, with its LF. The refusal is a number and no `Reason`, since 0 is acceptance (document 01, 'The checker').
 pub fn report_line(refusal: u8, line: usize, steps: u16, clauses: u16) -> [u8; REPORT_BYTES]
     requires { line ≤ highest_line }
     ensures { result ≡ line_of (report refusal line steps clauses) }

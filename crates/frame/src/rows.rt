@@ -1,53 +1,49 @@
 // The lines that stand in rows, and of which long texts are made: gates, outputs, resolves. Each is read as what is due there, without a frame.
-ghost use Rattle.std.specs.Prelude.{◌≤◌, length};
 ghost use Rattle.frame.specs.Rows.{OpSays, GateSays, LiteralSays, ResolvesSay};
 
-use crate::kinds::{Kind, kind_at};
-use crate::read::{operands_at, output_at, resolve_at};
+use crate::kinds::{Kind, kind_of};
+use crate::read::{operands_of, output_of, resolve_of};
 use crate::{Gate, Op, Resolve};
 
-// The operation of the gate's line at a place, by its kind alone, or there is no gate.
-pub fn op_line(text: &[u8], at: usize) -> Option<Op>
-    requires { at ≤ length text.now }
-    ensures { OpSays text.now at result }
+// The operation of a text's first line if that is a gate's, by its kind alone; or there is no gate.
+pub fn op_line(text: &[u8]) -> Option<Op>
+    ensures { OpSays text.now result }
 {
-    let kind = kind_at(text, at)?;
+    let kind = kind_of(text)?;
     let Kind::Gate(op) = kind else {
         return None;
     };
     Some(op)
 }
 
-// The gate of the line at a place, or there is no gate.
-pub fn gate_line(text: &[u8], at: usize) -> Option<Gate>
-    requires { at ≤ length text.now }
-    ensures { GateSays text.now at result }
+// The gate of the first line, or there is no gate.
+pub fn gate_line(text: &[u8]) -> Option<Gate>
+    ensures { GateSays text.now result }
 {
-    let op = op_line(text, at)?;
-    let (x, y) = operands_at(text, at)?;
+    let op = op_line(text)?;
+    let (x, y) = operands_of(text)?;
     Some(Gate { op, x, y })
 }
 
-// The literal of the output's line at a place, or there is no output.
-pub fn output_line(text: &[u8], at: usize) -> Option<u16>
-    requires { at ≤ length text.now }
-    ensures { LiteralSays text.now at result }
+// The literal of the first line if that is an output's, or there is no output.
+pub fn output_line(text: &[u8]) -> Option<u16>
+    ensures { LiteralSays text.now result }
 {
-    let kind = kind_at(text, at)?;
+    let kind = kind_of(text)?;
     let Kind::Output = kind else {
         return None;
     };
-    output_at(text, at)
+    output_of(text)
 }
 
-// The resolve of the line at a place, or there is no resolve.
-pub fn resolve_line(text: &[u8], at: usize) -> Option<Resolve>
-    requires { at ≤ length text.now }
-    ensures { ResolvesSay text.now at result }
+// The resolve of the first line, or there is no resolve. One function with the output's would take the kind and the reader, which is all that either
+// says.
+pub fn resolve_line(text: &[u8]) -> Option<Resolve>
+    ensures { ResolvesSay text.now result }
 {
-    let kind = kind_at(text, at)?;
+    let kind = kind_of(text)?;
     let Kind::Resolve = kind else {
         return None;
     };
-    resolve_at(text, at)
+    resolve_of(text)
 }

@@ -1,1 +1,3 @@
+pub mod Gates
+pub mod Counts
 pub mod Listing

@@ -1,57 +1,91 @@
-// Gates and outputs of a list that stands at a place of a text, each by its own place: the lines of a list have fixed lengths. Each contract names
-// gate k, or output k, of whatever list stands there, so that nobody proves the reading again; nothing here reads or refuses a list.
+// A gate list that stands in a text, with its gates and outputs each read at its own place: the lines of a list have fixed lengths. Contracts see
+// the list of the definitions, so that nobody proves the reading again; nothing here reads a whole list or refuses one.
 #![tactic(auto)]
 
-ghost use Rattle.std.specs.Prelude.{◌≡◌, ◌≤◌, ◌<◌, drop, length, get_or};
-ghost use Rattle.model.specs.Limits.{most_gates, most_outputs};
-ghost use Rattle.model.specs.Nets.{Netlist};
-ghost use Rattle.laws.specs.ListText.{Stands};
+ghost use Rattle.std.specs.Prelude.{◌≡◌, ◌<◌, length, get_or};
+ghost use Rattle.laws.specs.ListText.{list_bytes};
 ghost use Rattle.frame.specs.Frames.{op_of};
-ghost use Rattle.listing.specs.Listing.{gate_meant, no_gate};
+ghost use Rattle.listing.specs.Gates.{gate_meant, no_gate};
+ghost use Rattle.listing.specs.Counts.{Counted};
+ghost use Rattle.listing.specs.Listing.{list_in, Lists};
 
 use frame::kinds::{GATE_BYTES, HEADER_BYTES, OUTPUT_BYTES};
 use frame::rows::{gate_line, op_line, output_line};
 use frame::{Gate, Op};
+use std::marker::Model;
 
-// What comes where no list stands.
-const NO_GATE: Gate = Gate {
-    op: Op::And,
-    x: 0,
-    y: 0,
-};
-
-// Gate k, from 0, of the list at a place.
-pub fn gate_at(text: &[u8], at: usize, k: usize) -> Gate
-    requires { (at ≤ length text.now) × (k < most_gates) }
-    ensures { (n : Netlist) → Stands (drop at text.now) n → k < length n.gates → gate_meant result ≡ get_or n.gates k no_gate }
-{
-    let place = at + HEADER_BYTES + GATE_BYTES * k;
-    if text.len() < place {
-        return NO_GATE;
-    }
-    gate_line(text, place).unwrap_or(NO_GATE)
+// What a header states.
+#[derive(Clone, Copy, PartialEq, Eq)]
+pub struct Counts {
+    pub inputs: usize,
+    pub gates: usize,
+    pub outputs: usize,
 }
 
-// The operation of gate k alone, which its kind tells.
-pub fn op_at(text: &[u8], at: usize, k: usize) -> Op
-    requires { (at ≤ length text.now) × (k < most_gates) }
-    ensures { (n : Netlist) → Stands (drop at text.now) n → k < length n.gates → op_of result ≡ (get_or n.gates k no_gate).op }
-{
-    let place = at + HEADER_BYTES + GATE_BYTES * k;
-    if text.len() < place {
-        return Op::And;
-    }
-    op_line(text, place).unwrap_or(Op::And)
+// The lines from a list's header on, and what that states.
+#[derive(Drop)]
+pub struct GateList<'a> {
+    lines: &'a [u8],
+    counts: Counts,
 }
 
-// The literal of output k, from 0, of the list at a place, which has so many gates.
-pub fn output_at(text: &[u8], at: usize, gates: usize, k: usize) -> u16
-    requires { (at ≤ length text.now) × (gates ≤ most_gates) × (k < most_outputs) }
-    ensures { (n : Netlist) → Stands (drop at text.now) n → length n.gates ≡ gates → k < length n.outs → result ≡ get_or n.outs k 0 }
-{
-    let place = at + HEADER_BYTES + GATE_BYTES * gates + OUTPUT_BYTES * k;
-    if text.len() < place {
-        return 0;
+impl<'a> Model for GateList<'a> {
+    ghost use Rattle.model.specs.Nets.{Netlist};
+
+    ghost Value = { Netlist };
+
+    ghost use Rattle.listing.specs.Listing.{list_of, IsList};
+
+    ghost view = { list_of };
+
+    ghost invariant = { IsList };
+}
+
+impl<'a> GateList<'a> {
+    // The list that lines begin with, where it was read.
+    pub fn new(lines: &'a [u8], counts: Counts) -> GateList<'a>
+        requires { Lists lines.now counts }
+        ensures { result ≡ list_in lines.now }
+    {
+        GateList { lines, counts }
     }
-    output_line(text, place).unwrap_or(0)
+
+    pub fn counts(&self) -> Counts
+        ensures { Counted result self.now }
+    {
+        self.counts
+    }
+
+    // Its bytes, for its lines have fixed lengths.
+    pub fn bytes(&self) -> usize
+        ensures { result ≡ list_bytes self.now }
+    {
+        let counts = self.counts;
+        HEADER_BYTES + GATE_BYTES * counts.gates + OUTPUT_BYTES * counts.outputs
+    }
+
+    // Gate k, from 0.
+    pub fn gate(&self, k: usize) -> Gate
+        requires { k < length self.now.gates }
+        ensures { gate_meant result ≡ get_or self.now.gates k no_gate }
+    {
+        gate_line(&self.lines[HEADER_BYTES + GATE_BYTES * k..]).unwrap()
+    }
+
+    // The operation of gate k alone, which its kind tells: who counts clauses need not read the operands.
+    pub fn op(&self, k: usize) -> Op
+        requires { k < length self.now.gates }
+        ensures { op_of result ≡ (get_or self.now.gates k no_gate).op }
+    {
+        op_line(&self.lines[HEADER_BYTES + GATE_BYTES * k..]).unwrap()
+    }
+
+    // The literal of output k, from 0.
+    pub fn output(&self, k: usize) -> u16
+        requires { k < length self.now.outs }
+        ensures { result ≡ get_or self.now.outs k 0 }
+    {
+        let place = HEADER_BYTES + GATE_BYTES * self.counts.gates + OUTPUT_BYTES * k;
+        output_line(&self.lines[place..]).unwrap()
+    }
 }

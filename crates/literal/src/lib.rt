@@ -38,6 +38,7 @@ impl Literal {
         Literal { code: 2 * v }
     }
 
+    // Two names of the field; both signs by one function are `complement_if`.
     pub fn negative(v: u16) -> Literal
         requires { v ≤ 32767 }
         ensures { result.code ≡ model.negative v }

@@ -1,26 +1,28 @@
 -- The miter's clauses, variable by variable.
-use Prim.Native.Nat.{ℕ, zero, suc, ◌+◌, ◌-◌, ◌*◌, ◌≤◌, ◌<◌}
-use mathlib.Core.Path.{◌≡◌, refl, sym, ap, ◌∙◌, subst}
+use Prim.Native.Nat.{ℕ, zero, suc, ◌+◌, ◌-◌, ◌≤◌, ◌<◌}
+use mathlib.Core.Path.{◌≡◌, refl, sym, ap, ◌∙◌}
 use mathlib.Core.Bool.{false}
 use mathlib.Core.List.{List, [], ◌∷◌, ◌++◌, append_assoc, append-nil}
 use native.Mathlib.Omega.{arith}
 use lib.ListN.{length, take, get_or, length-append}
-use lib.Seq.{sets, take_all}
+use lib.Seq.{take_all}
 use borrow.Author.Tests.{le-leb, lt-leb}
 use Rattle.model.specs.Nets.{Gate, Netlist}
-use Rattle.model.specs.Limits.{clause_width}
 use Rattle.model.specs.Answers.{guard}
 use Rattle.model.specs.Answers.Answer.{ok, refused}
-use Rattle.model.specs.Clauses.{Clause, positive, negative, insert, join, clause_of, gate_clauses, all_clauses}
-use Rattle.model.specs.Checker.{begin, stored, stored_all}
+use Rattle.model.specs.Clauses.{Clause, positive, insert, join, clause_of, gate_clauses, all_clauses}
+use Rattle.model.specs.Checker.{begin}
 use Rattle.model.specs.Miter.{first_gate, first_clause, last_clause, miter_gates, miter_vars, miter}
-use Rattle.netlist.specs.declared.Pair.{Pair}
-use Rattle.listing.specs.Listing.{no_gate}
-use Rattle.miter.specs.declared.variables.Definition.{Definition}
+use Rattle.laws.specs.Pairs as pairs
+use Rattle.listing.specs.Gates.{no_gate}
+use Rattle.steps.specs.declared.gates.Definition.{Definition}
 use Rattle.clause.specs.Sets.{Proper}
-use Rattle.steps.specs.Progress.{clauses_of, Held, Tracks}
-use Rattle.miter.specs.Miters.{PairStands, Defines, gate_count, gates_up_to, begin_of}
-use Rattle.steps.proofs.HeldLaws.{held_more}
+use Rattle.model.specs.Steps.{State}
+use Rattle.steps.specs.declared.Proof.{Proof}
+use Rattle.steps.specs.Gates.{clauses_for}
+use Rattle.steps.specs.Proofs.{state_of, nothing}
+use Rattle.miter.specs.Miters.{Defines, gate_count, gates_up_to, begin_of}
+use Rattle.steps.proofs.HeldLaws.{clauses_count}
 use Rattle.miter.proofs.MiterLaws.{gate_total}
 
 -- one variable more
@@ -42,9 +44,9 @@ up_to_more a b i d h =
     rw e (ap (λ (l : List Clause). first_clause ∷ l) (clauses_more (first_gate a) (miter_gates a b) i d h))
 
 -- before the first variable
-pub none_yet : {store : List ℕ} (a b : Netlist) → Held store (first_clause ∷ []) → Held store (gates_up_to a b 0) × (length (gates_up_to a b 0) ≡ 1)
+pub none_yet : (a b : Netlist) → gates_up_to a b 0 ≡ first_clause ∷ []
 unfolding all_clauses
-none_yet a b h = (h, refl)
+none_yet a b = refl
 
 -- fewer variables, fewer clauses
 clauses_fewer : (t : ℕ) (gs : List Gate) (i n : ℕ) → i ≤ n → length (all_clauses t (take i gs)) ≤ length (all_clauses t (take n gs))
@@ -66,27 +68,22 @@ pub up_to_fewer : (a b : Netlist) (i n : ℕ) → i ≤ n → length (gates_up_t
 up_to_fewer a b i n h = omega (arith, clauses_fewer (first_gate a) (miter_gates a b) i n h)
 
 -- variable v, which is i of them, in the store behind the clauses of those before it
-module _ {text : List ℕ} {p : Pair} (w : PairStands text p) (v i count : ℕ) (d : Definition) (e : v ≡ 1 + p.inputs + i) (h : i < gate_count p)
-    (def : Defines d v (get_or (miter_gates w.left w.right) i no_gate)) (len : length (gates_up_to w.left w.right i) ≡ count) where
+module _ (a b : Netlist) (v i count : ℕ) (d : Definition) (e : v ≡ 1 + a.inputs + i) (h : i < length (miter_gates a b))
+    (def : Defines d v (get_or (miter_gates a b) i no_gate)) (len : length (gates_up_to a b i) ≡ count) where
   abbrev earlier : List Clause
-  earlier = gates_up_to w.left w.right i
+  earlier = gates_up_to a b i
 
   abbrev own : List Clause
-  own = clauses_of d.op d.n.code d.x.code d.y.code
+  own = clauses_for d
 
-  one_more : gates_up_to w.left w.right (i + 1) ≡ earlier ++ own
+  pub one_more : gates_up_to a b (i + 1) ≡ earlier ++ own
   one_more =
-      let at : first_gate w.left + i ≡ v = omega (arith, w.inputs) in
-      up_to_more w.left w.right i no_gate (omega (arith, gate_total w)) ∙ rw (at, def.same)
-
-  pub variable_held : (store : List ℕ) (n : ℕ) → n ≡ count + length own → Held store (earlier ++ own)
-      → Held store (gates_up_to w.left w.right (i + 1)) × (length (gates_up_to w.left w.right (i + 1)) ≡ n)
-  variable_held store n total held = (subst (Held store) (sym one_more) held, ap length one_more ∙ length-append earlier own ∙ omega arith)
+      let at : first_gate a + i ≡ v = omega arith in
+      up_to_more a b i no_gate h ∙ rw (at, def.same)
 
   -- where there is no room for them, there is none for all
-  pub variable_short : (room : ℕ) → room < count + length own → room < length (gates_up_to w.left w.right (gate_count p))
-  variable_short room full =
-      omega (arith, length-append earlier own, ap length one_more, up_to_fewer w.left w.right (i + 1) (gate_count p) (omega arith))
+  pub variable_short : (room all : ℕ) → room < count + length own → i < all → room < length (gates_up_to a b all)
+  variable_short room all full more = omega (arith, length-append earlier own, ap length one_more, up_to_fewer a b (i + 1) all (omega arith))
 
 -- ---- the first and the last clause
 
@@ -96,12 +93,6 @@ unit_clause l = refl
 
 pub unit_proper : (l : ℕ) → l < 65534 → Proper (l ∷ [])
 unit_proper l h = record { rising = (omega arith, tt); width = omega arith }
-
--- a unit clause saved behind those before it
-pub unit_held : (store : List ℕ) (cs : List Clause) (l count : ℕ) (c : Clause) → l < 65534 → c ≡ clause_of (l ∷ []) → Held store cs → length cs ≡ count
-    → clause_width * count + clause_width ≤ length store → Held (sets store (clause_width * count) (stored c)) (cs ++ ((l ∷ []) ∷ []))
-unit_held store cs l count c h is held n room =
-    rw (sym n, is, unit_clause l) (held_more store cs (l ∷ []) held (unit_proper l h) (rw n room))
 
 miter_is : (a b : Netlist) → miter a b ≡ gates_up_to a b (length (miter_gates a b)) ++ (last_clause a b ∷ [])
 unfolding miter
@@ -119,37 +110,48 @@ module _ (room : ℕ) (a b : Netlist) (count : ℕ) (n : length (gates_up_to a b
   unfolding begin_of guard
   begins h = rw (miter_count, le-leb (count + 1) room (omega arith))
 
-  pub begin_tracks : (store : List ℕ) (last l : ℕ) → l ≡ positive last → Held store (gates_up_to a b (length (miter_gates a b)) ++ ((l ∷ []) ∷ []))
-      → miter_vars a b ≡ last + 1 → Tracks store (record { clauses = count + 1; next = last + 1; steps = 0; empty = false }) (begin a b)
-  unfolding begin
-  begin_tracks store last l e held v =
-      let same : last ≡ miter_vars a b - 1 = omega arith in
-      record {
-        held = rw (miter_is a b, sym same, sym e) held;
-        clauses = miter_count;
-        next = v;
-        steps = refl;
-        empty = refl;
-      }
+-- the state before the first step
+pub begins_with : (a b : Netlist) (last l : ℕ) → l ≡ positive last → miter_vars a b ≡ last + 1
+    → record { clauses = gates_up_to a b (length (miter_gates a b)) ++ ((l ∷ []) ∷ []); next = last + 1; steps = 0; empty = false } ≡ begin a b
+unfolding begin
+begins_with a b last l e v =
+    let same : last ≡ miter_vars a b - 1 = omega arith in
+    let ends : l ∷ [] ≡ last_clause a b = ap (λ (x : ℕ). x ∷ []) (e ∙ ap positive same) in
+    let all : gates_up_to a b (length (miter_gates a b)) ++ ((l ∷ []) ∷ []) ≡ miter a b =
+    ap (λ (c : Clause). gates_up_to a b (length (miter_gates a b)) ++ (c ∷ [])) ends ∙ sym (miter_is a b) in
+    λ i. record { clauses = all i; next = (sym v) i; steps = 0; empty = false }
+
+-- ---- states
+
+-- so many clauses are there
+pub counted : (p : Proof) (s : State) → state_of p ≡ s → length s.clauses ≡ p.clauses
+counted p s e = sym (ap (λ (t : State). length t.clauses) e) ∙ clauses_count p.clauses p.store.now
+
+-- a variable's clauses were put behind those before it
+pub one_put : (s p d : State) (before own all : List Clause) → p ≡ record s { clauses = before } → d ≡ record p { clauses = p.clauses ++ own } → all ≡ before ++ own
+    → d ≡ record s { clauses = all }
+one_put s p d before own all e f g = rw (f, e, g) refl
+
+-- all were put, where there was nothing
+pub all_put : (n p t : State) (first all : List Clause) → n ≡ nothing → p ≡ record n { clauses = first } → t ≡ record p { clauses = all } → t ≡ record nothing { clauses = all }
+all_put n p t first all e f g = rw (g, f, e) refl
+
+-- and then the last
+pub last_put : (p d : State) (cs : List Clause) (c : Clause) (l next : ℕ) → p ≡ record nothing { clauses = cs } → d ≡ record p { clauses = p.clauses ++ (c ∷ []) } → c ≡ l ∷ []
+    → record d { next = next } ≡ record { clauses = cs ++ ((l ∷ []) ∷ []); next = next; steps = 0; empty = false }
+last_put p d cs c l next e f g = rw (f, e, g) refl
 
 -- ---- two lists that were read
 
-pub none_held : (store : List ℕ) → Held store []
-unfolding stored_all
-none_held store = record { room = omega arith; same = refl; proper = tt }
-
-pub first_held : (store : List ℕ) (l : ℕ) → l ≡ negative 0 → Held store ([] ++ ((l ∷ []) ∷ [])) → Held store (first_clause ∷ [])
-first_held store l e h = rw (sym e) h
-
-module _ {text : List ℕ} {p : Pair} (w : PairStands text p) where
-  pub variables_are : (n : ℕ) → n ≡ 1 + p.inputs + p.left + p.right + p.outputs + (p.outputs - 1) → miter_vars w.left w.right ≡ n - 1 + 1
+module _ {a b : Netlist} (ab : pairs.Pair a b) where
+  pub variables_are : (n : ℕ) → n ≡ 1 + a.inputs + length a.gates + length b.gates + length a.outs + (length a.outs - 1) → miter_vars a b ≡ n - 1 + 1
   unfolding miter_vars
-  variables_are n e = omega (arith, gate_total w, w.inputs)
+  variables_are n e = omega (arith, gate_total ab)
 
-  pub all_short : (room : ℕ) → room < length (gates_up_to w.left w.right (gate_count p)) → begin_of room w.left w.right ≡ refused 8 0
+  pub all_short : (room : ℕ) → room < length (gates_up_to a b (gate_count (record { left = a; right = b }))) → begin_of room a b ≡ refused 8 0
   all_short room h =
-      let e = ap (λ (k : ℕ). length (gates_up_to w.left w.right k)) (gate_total w) in
-      begin_short room w.left w.right (length (gates_up_to w.left w.right (length (miter_gates w.left w.right)))) refl (omega arith)
+      let e = ap (λ (k : ℕ). length (gates_up_to a b k)) (gate_total ab) in
+      begin_short room a b (length (gates_up_to a b (length (miter_gates a b)))) refl (omega arith)
 
-  pub no_space : (room : ℕ) → room ≡ 0 → begin_of room w.left w.right ≡ refused 8 0
-  no_space room h = begin_short room w.left w.right (length (gates_up_to w.left w.right (length (miter_gates w.left w.right)))) refl (omega arith)
+pub no_space : (room : ℕ) (a b : Netlist) → room ≡ 0 → begin_of room a b ≡ refused 8 0
+no_space room a b h = begin_short room a b (length (gates_up_to a b (length (miter_gates a b)))) refl (omega arith)

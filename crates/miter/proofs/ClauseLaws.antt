@@ -12,8 +12,8 @@ use Rattle.model.specs.Miter.{gates_of, clause_count, behind, first_gate_clause,
 use Rattle.frame.specs.declared.Op.{Op}
 use Rattle.frame.specs.declared.Op.TheVariants.{And, Xor}
 use Rattle.frame.specs.Frames.{op_of}
-use Rattle.listing.specs.Listing.{no_gate}
-use Rattle.steps.specs.Progress.{clauses_of}
+use Rattle.listing.specs.Gates.{no_gate}
+use Rattle.steps.specs.Kept.{clauses_of}
 
 -- as many as the gate's definition has
 pub count_of : (op : Op) → length (clauses_of op 0 0 0) ≡ clause_count (op_of op)

@@ -1,13 +1,13 @@
 -- The miter's variables, one by one: what the code builds for each has the clauses of the definition's gate.
 use Prim.Native.Nat.{ℕ, zero, suc, ◌+◌, ◌-◌, ◌*◌, ◌/◌, ◌≤◌, ◌<◌}
-use mathlib.Core.Path.{◌≡◌, refl, sym, ap, ap₂, ◌∙◌, subst}
+use mathlib.Core.Path.{◌≡◌, refl, sym, ap, ◌∙◌, subst}
 use mathlib.Core.Bool.{true}
 use mathlib.Core.List.{List, [], ◌∷◌, ◌++◌, map}
 use native.Mathlib.Omega.{arith}
 use lib.ListN.{length, get_or, length-append, get_or-append}
 use lib.Seq.{get_or-append-add}
 use borrow.Author.Tests.{le-leb, lt-leb}
-use Rattle.model.specs.Limits.{most_gates, highest_variable}
+use Rattle.model.specs.Limits.{highest_variable}
 use Rattle.model.specs.Nets as nets
 use Rattle.model.specs.Nets.{Gate, Netlist, reads_below}
 use Rattle.model.specs.Clauses.{positive, negative, neg, op_clauses, gate_clauses}
@@ -20,13 +20,11 @@ use Rattle.frame.specs.declared.Op.{Op}
 use Rattle.frame.specs.declared.Op.TheVariants.{And, Xor}
 use Rattle.frame.specs.Frames.{op_of}
 use Rattle.literal.specs.declared.Literal.{Literal}
-use Rattle.netlist.specs.declared.Pair.{Pair}
 use Rattle.frame.specs.declared.Gate as listing
-use Rattle.listing.specs.Listing.{gate_meant, no_gate}
-use Rattle.netlist.specs.Within.{Within}
-use Rattle.miter.specs.declared.variables.Definition.{Definition}
-use Rattle.miter.specs.Miters.{PairStands, Defines, gate_count, z_gate, w_variable, w_gate}
-use Rattle.steps.proofs.StepLaws.{gate_clauses_lem}
+use Rattle.listing.specs.Gates.{gate_meant, no_gate}
+use Rattle.steps.specs.declared.gates.Definition.{Definition}
+use Rattle.miter.specs.Miters.{Defines, gate_count, z_gate, w_variable, w_gate}
+use Rattle.steps.proofs.StepLaws.{gate_in_room}
 
 -- ---- literals
 
@@ -67,10 +65,8 @@ pub gate_defines : (g : listing.Gate) (t : ℕ) (n x y : Literal) → n.code ≡
 gate_defines g t n x y en ex ey low r =
     let b = literals_below t (gate_meant g) r in
     record {
-      same = rw (en, ex, ey) (sym (ap (gate_clauses t) (meant g.op g.x g.y) ∙ gate_clauses_lem g.op t g.x g.y));
-      low_n = omega arith;
-      low_x = omega (arith, b.0);
-      low_y = omega (arith, b.1);
+      same = rw (en, ex, ey) (sym (ap (gate_clauses t) (meant g.op g.x g.y) ∙ gate_in_room g.op t g.x g.y));
+      low = record { low_n = omega arith; low_x = omega (arith, b.0); low_y = omega (arith, b.1) };
     }
 
 neg_positive : (v : ℕ) → neg (positive v) ≡ negative v
@@ -91,9 +87,7 @@ unfolding op_clauses
 w_defines z w k n x y h low en ex ey =
     record {
       same = rw (en, ex, ey, neg_positive (w_variable z w k), neg_positive (z + 1 + k));
-      low_n = omega arith;
-      low_x = omega (arith, w_low z w k h);
-      low_y = omega arith;
+      low = record { low_n = omega arith; low_x = omega (arith, w_low z w k h); low_y = omega arith };
     }
 
 -- ---- the variable of each
@@ -159,88 +153,58 @@ module _ (a b : Netlist) (ab : pairs.Pair a b) where
 
 -- ---- two lists that were read
 
-module _ {text : List ℕ} {p : Pair} (w : PairStands text p) where
-  pub within : Within p
-  within =
-      record {
-        inputs = omega (arith, w.alike.left.inputs, w.inputs);
-        left = omega (arith, w.alike.left.gates, w.left_gates);
-        right = omega (arith, w.alike.right.gates, w.right_gates_lem);
-        some = omega (arith, w.alike.left.some, w.outputs);
-        outputs = omega (arith, w.alike.left.outs, w.outputs);
-      }
-
-  pub few_left : p.left ≤ most_gates
-  few_left = within.left
-
-  pub few_right : p.right ≤ most_gates
-  few_right = within.right
-
-  pub right_literals : (k : ℕ) → k < p.right → (g : listing.Gate) → gate_meant g ≡ get_or w.right.gates k no_gate → (g.x < 4096) × (g.y < 4096)
+module _ {a b : Netlist} (ab : pairs.Pair a b) where
+  pub right_literals : (k : ℕ) → k < length b.gates → (g : listing.Gate) → gate_meant g ≡ get_or b.gates k no_gate → (g.x < 4096) × (g.y < 4096)
   right_literals k h g is =
-      let m : Gate = get_or w.right.gates k no_gate in
-      let o = ordered_at (1 + w.right.inputs) w.right.gates k no_gate w.alike.right.ordered (omega (arith, w.right_gates_lem)) in
-      let r = literals_below (1 + w.right.inputs + k) m o in (
-        omega (arith, x_is g m is, r.0, w.alike.right.inputs, w.alike.right.gates, w.right_gates_lem),
-        omega (arith, y_is g m is, r.1, w.alike.right.inputs, w.alike.right.gates, w.right_gates_lem),
-      )
+      let m : Gate = get_or b.gates k no_gate in
+      let r = literals_below (1 + b.inputs + k) m (ordered_at (1 + b.inputs) b.gates k no_gate ab.right.ordered h) in
+      (omega (arith, x_is g m is, r.0, ab.right.inputs, ab.right.gates), omega (arith, y_is g m is, r.1, ab.right.inputs, ab.right.gates))
 
-  -- gate k of both lists, behind those of the left
-  pub right_gate_of : (k : ℕ) → p.left ≤ k → k < p.left + p.right
-      → shift_gate p.inputs p.left (get_or w.right.gates (k - p.left) no_gate) ≡ get_or (gates_of w.left w.right) k no_gate
-  right_gate_of k h i =
-      let j : ℕ = k - p.left in
-      let g : Gate = get_or w.right.gates j no_gate in
-      let m : length w.left.gates + j ≡ k = omega (arith, w.left_gates) in
-      ap₂ (λ (i n : ℕ). shift_gate i n g) (sym w.inputs) (sym w.left_gates)
-      ∙ sym (right_of w.left w.right w.alike j no_gate (omega (arith, w.left_gates, w.right_gates_lem)))
-      ∙ ap (λ (x : ℕ). get_or (gates_of w.left w.right) x no_gate) m
+  -- gate k of both lists: of the left, or behind those
+  pub left_gate_of : (k : ℕ) → k < length a.gates → get_or a.gates k no_gate ≡ get_or (gates_of a b) k no_gate
+  left_gate_of k h = sym (left_of a b ab k no_gate h)
 
-  pub z_gate_of : (k : ℕ) → k < p.outputs → z_gate p.inputs p.left w.left.outs w.right.outs k ≡ get_or (z_gates w.left w.right) k no_gate
-  z_gate_of k h =
-      ap₂ (λ (i n : ℕ). z_gate i n w.left.outs w.right.outs k) (sym w.inputs) (sym w.left_gates)
-      ∙ sym (z_of_lem w.left w.right w.alike k no_gate (omega (arith, w.outputs)))
+  pub right_gate_of : (k inputs left : ℕ) → inputs ≡ a.inputs → left ≡ length a.gates → left ≤ k → k < length a.gates + length b.gates
+      → shift_gate inputs left (get_or b.gates (k - left) no_gate) ≡ get_or (gates_of a b) k no_gate
+  right_gate_of k inputs left i l h m =
+      let e : length a.gates + (k - length a.gates) ≡ k = omega arith in
+      rw (i, l) (sym (right_of a b ab (k - length a.gates) no_gate (omega arith)) ∙ ap (λ (x : ℕ). get_or (gates_of a b) x no_gate) e)
 
--- ---- the miter's variables
+  pub z_gate_of : (k : ℕ) → k < length a.outs → z_gate a.inputs (length a.gates) a.outs b.outs k ≡ get_or (z_gates a b) k no_gate
+  z_gate_of k h = sym (z_of_lem a b ab k no_gate h)
 
-module _ {text : List ℕ} {p : Pair} (w : PairStands text p) where
-  abbrev a : Netlist
-  a = w.left
-
-  abbrev b : Netlist
-  b = w.right
+  -- ---- the miter's variables
 
   -- how many there are
-  pub gate_total : length (miter_gates a b) ≡ gate_count p
-  gate_total = length_miter a b w.alike ∙ rw (w.left_gates, w.right_gates_lem, w.outputs)
+  pub gate_total : length (miter_gates a b) ≡ gate_count (record { left = a; right = b })
+  gate_total = length_miter a b ab
 
   -- variable i of them is a gate of both lists, or a z
-  pub gate_variable : (i j : ℕ) → i ≡ j → j < p.left + p.right → get_or (gates_of a b) j no_gate ≡ get_or (miter_gates a b) i no_gate
-  gate_variable i j e h =
-      rw e (sym (gates_at a b w.alike j no_gate (omega (arith, length_gates a b w.alike, w.left_gates, w.right_gates_lem))))
+  pub gate_variable : (i j : ℕ) → i ≡ j → j < length a.gates + length b.gates → get_or (gates_of a b) j no_gate ≡ get_or (miter_gates a b) i no_gate
+  gate_variable i j e h = rw e (sym (gates_at a b ab j no_gate (omega (arith, length_gates a b ab))))
 
-  pub z_variable : (i j : ℕ) → i ≡ p.left + p.right + j → j < p.outputs → get_or (z_gates a b) j no_gate ≡ get_or (miter_gates a b) i no_gate
+  pub z_variable : (i j : ℕ) → i ≡ length a.gates + length b.gates + j → j < length a.outs → get_or (z_gates a b) j no_gate ≡ get_or (miter_gates a b) i no_gate
   z_variable i j e h =
-      let n : length (gates_of a b) + j ≡ i = omega (arith, length_gates a b w.alike, w.left_gates, w.right_gates_lem) in
-      rw (← n) (sym (z_at a b w.alike j no_gate (omega (arith, length_z a b w.alike, w.outputs))))
+      let n : length (gates_of a b) + j ≡ i = omega (arith, length_gates a b ab) in
+      rw (← n) (sym (z_at a b ab j no_gate (omega (arith, length_z a b ab))))
 
   -- it reads variables below its own; so its definition is that of the gate that was read for it
-  pub read_variable : (v i : ℕ) (d : Definition) (g : listing.Gate) → v ≡ 1 + p.inputs + i → i < gate_count p → gate_meant g ≡ get_or (miter_gates a b) i no_gate
+  pub read_variable : (v i : ℕ) (d : Definition) (g : listing.Gate) → v ≡ 1 + a.inputs + i → i < length (miter_gates a b) → gate_meant g ≡ get_or (miter_gates a b) i no_gate
       → (reads_below v (gate_meant g) ≡ true → Defines d v (gate_meant g)) → Defines d v (get_or (miter_gates a b) i no_gate)
   read_variable v i d g e h is def =
-      let at : first_gate a + i ≡ v = omega (arith, w.inputs) in
+      let at : first_gate a + i ≡ v = omega arith in
       let low : reads_below v (get_or (miter_gates a b) i no_gate) ≡ true =
-      rw (← at) (ordered_at (first_gate a) (miter_gates a b) i no_gate (ordered_miter a b w.alike) (omega (arith, gate_total))) in
+      rw (← at) (ordered_at (first_gate a) (miter_gates a b) i no_gate (ordered_miter a b ab) h) in
       subst (Defines d v) is (def (ap (reads_below v) is ∙ low))
 
   -- behind those it is a w
-  pub w_variable_lem : (v i j z first : ℕ) (d : Definition) → v ≡ 1 + p.inputs + i → v ≡ first + j → i < gate_count p
-      → z ≡ 1 + p.inputs + p.left + p.right → first ≡ z + p.outputs
+  pub w_variable_lem : (v i j z first : ℕ) (d : Definition) → v ≡ 1 + a.inputs + i → v ≡ first + j → i < length (miter_gates a b)
+      → z ≡ 1 + a.inputs + length a.gates + length b.gates → first ≡ z + length a.outs
       → Defines d (first + j) (w_gate z first j) → Defines d v (get_or (miter_gates a b) i no_gate)
   unfolding first_z
   w_variable_lem v i j z first d e is h ez ew def =
       let n : length (gates_of a b ++ z_gates a b) + j ≡ i =
-      omega (arith, length-append (gates_of a b) (z_gates a b), length_gates a b w.alike, length_z a b w.alike, w.left_gates, w.right_gates_lem, w.outputs) in
-      let fz : z ≡ first_z a b = omega (arith, w.inputs, w.left_gates, w.right_gates_lem) in
-      let fw : first ≡ first_w a b = omega (arith, w.inputs, w.left_gates, w.right_gates_lem, w.outputs) in
-      rw (is, ← n, w_at a b w.alike j no_gate (omega (arith, w.outputs)), ← fw, ← fz) def
+      omega (arith, length-append (gates_of a b) (z_gates a b), length_gates a b ab, length_z a b ab) in
+      let fz : z ≡ first_z a b = omega arith in
+      let fw : first ≡ first_w a b = omega arith in
+      rw (is, ← n, w_at a b ab j no_gate (omega (arith, gate_total)), ← fw, ← fz) def

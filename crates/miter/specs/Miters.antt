@@ -1,38 +1,23 @@
--- Two lists that a text has at its start, and the definitions of their miter's variables.
-use Rattle.std.specs.Prelude.{ℕ, zero, suc, ◌+◌, ◌-◌, ◌*◌, ◌≤◌, ◌<◌, ◌≡◌, List, ◌∷◌, leb, length, take, drop, get_or, Result, Ok, Err}
+-- The definitions of the variables of two lists' miter, and its clauses.
+use Rattle.std.specs.Prelude.{ℕ, zero, suc, ◌+◌, ◌-◌, ◌*◌, ◌≤◌, ◌<◌, ◌≡◌, List, ◌∷◌, leb, length, take, get_or, Result, Ok, Err}
 use Rattle.model.specs.Nets.{Gate, Netlist}
 use Rattle.model.specs.Nets.Op.{xor, or}
 use Rattle.model.specs.Clauses.{Clause, positive, gate_clauses, all_clauses}
-use Rattle.model.specs.Miter.{shift, first_gate, first_clause, miter_gates, miter}
-use Rattle.model.specs.Limits.{clause_width, most_clauses}
+use Rattle.model.specs.Miter.{shift, first_gate, first_clause, miter_gates, miter, first_z_clause, first_w_clause, last_number, first_behind}
 use Rattle.model.specs.Answers.{Answer, guard}
 use Rattle.model.specs.Answers.Answer.{ok}
 use Rattle.model.specs.Steps.{State}
 use Rattle.model.specs.Checker.{begin}
-use Rattle.laws.specs.Pairs as pairs
-use Rattle.laws.specs.ListText.{Stands}
+use Rattle.model.specs.Lists.{Lists}
 use Rattle.refusal.specs.declared.Refusal.{Refusal}
 use Rattle.refusal.specs.declared.Reason.TheVariants.{Miter}
-use Rattle.netlist.specs.declared.Pair.{Pair}
-use Rattle.miter.specs.declared.variables.Definition.{Definition}
-use Rattle.steps.specs.Progress.{clauses_of, Held}
-
--- the lists that stand in a text where a reader found them
-pub record PairStands (text : List ℕ) (p : Pair) : Type 0 where
-  pub left : Netlist
-  pub right : Netlist
-  pub alike : pairs.Pair left right
-  pub left_stands : Stands text left
-  pub right_stands : Stands (drop p.place text) right
-  pub place : p.place ≤ length text
-  pub inputs : left.inputs ≡ p.inputs
-  pub left_gates : length left.gates ≡ p.left
-  pub right_gates_lem : length right.gates ≡ p.right
-  pub outputs : length left.outs ≡ p.outputs
+use Rattle.miter.specs.declared.clauses.ClauseNumbers.{ClauseNumbers}
+use Rattle.steps.specs.declared.gates.Definition.{Definition}
+use Rattle.steps.specs.Gates.{clauses_for, Low}
 
 -- the variables that are gates, z and w
-abbrev pub gate_count : Pair → ℕ
-gate_count p = p.left + p.right + p.outputs + (p.outputs - 1)
+abbrev pub gate_count : Lists → ℕ
+gate_count l = length l.left.gates + length l.right.gates + length l.left.outs + (length l.left.outs - 1)
 
 -- z of output k, from 0
 abbrev pub z_gate : ℕ → ℕ → List ℕ → List ℕ → ℕ → Gate
@@ -49,10 +34,25 @@ w_gate z w k = record { op = or; x = positive (w_variable z w k); y = positive (
 
 -- the clauses of the definition are those of variable t as this gate, and the store can hold its literals
 pub record Defines (d : Definition) (t : ℕ) (g : Gate) : Type 0 where
-  pub same : clauses_of d.op d.n.code d.x.code d.y.code ≡ gate_clauses t g
-  pub low_n : d.n.code < 65534
-  pub low_x : d.x.code < 65534
-  pub low_y : d.y.code < 65534
+  pub same : clauses_for d ≡ gate_clauses t g
+  pub low : Low d
+
+-- the numbers of the clauses behind those of the gates, where so many z begin with number z
+abbrev pub numbers_of : ℕ → ℕ → ClauseNumbers
+numbers_of outputs z = record {
+  first_z = z;
+  first_w = z + 4 * outputs;
+  last = z + 4 * outputs + 3 * (outputs - 1);
+  behind = z + 4 * outputs + 3 * (outputs - 1) + 1;
+}
+
+-- the numbers of the clauses where the parts begin, of the last, and of the first behind them: all are small
+pub record Numbered (k : ClauseNumbers) (a b : Netlist) : Type 0 where
+  pub first_z : k.first_z ≡ first_z_clause a b
+  pub first_w : k.first_w ≡ first_w_clause a b
+  pub last : k.last ≡ last_number a b
+  pub behind : k.behind ≡ first_behind a b
+  pub few : k.behind ≤ 9000
 
 -- ---- the clauses in the store
 
@@ -60,16 +60,10 @@ pub record Defines (d : Definition) (t : ℕ) (g : Gate) : Type 0 where
 abbrev pub gates_up_to : Netlist → Netlist → ℕ → List Clause
 gates_up_to a b i = first_clause ∷ all_clauses (first_gate a) (take i (miter_gates a b))
 
--- so many numbers have room for so many clauses, of which there is one at least
-pub record Space (numbers room : ℕ) : Type 0 where
-  pub numbers_for_all : clause_width * room ≤ numbers
-  pub most : room ≤ most_clauses
-  pub some : 1 ≤ room
-
--- the store holds the clauses, or has no room for them, which is 8 at line 0
-abbrev pub FilledSays : ℕ → List Clause → List ℕ → Result ℕ Refusal → Type 0
-FilledSays room cs store (Ok n) = Held store cs × (length cs ≡ n) × (n ≤ room)
-FilledSays room cs store (Err r) = (r ≡ record { reason = Miter; line = 0 }) × (room < length cs)
+-- the clauses are there, and else the state is as it was; or there is no room for them, which is 8 at line 0
+abbrev pub FilledSays : {A : Type 0} → ℕ → List Clause → State → State → Result A Refusal → Type 0
+FilledSays room cs s t (Ok _) = t ≡ record s { clauses = cs }
+FilledSays room cs s t (Err r) = (r ≡ record { reason = Miter; line = 0 }) × (room < length cs)
 
 -- before the first step: 8 if the store is too short for the miter's clauses
 unfoldable pub begin_of : ℕ → Netlist → Netlist → Answer State

@@ -1,16 +1,14 @@
 // The gates and outputs of both lists in the miter's numbering: the right list's gates lie behind the left list's.
-ghost use Rattle.std.specs.Prelude.{◌≡◌, ◌+◌, ◌≤◌, ◌<◌, get_or};
+ghost use Rattle.std.specs.Prelude.{◌≡◌, ◌+◌, ◌≤◌, ◌<◌, length, get_or};
 ghost use Rattle.model.specs.Limits.{most_gates};
 ghost use Rattle.model.specs.Miter as model;
 ghost use Rattle.model.specs.Miter.{gates_of, z_gates};
 ghost use Rattle.frame.specs.Frames.{op_of};
-ghost use Rattle.listing.specs.Listing.{gate_meant, no_gate};
-ghost use Rattle.miter.specs.Miters.{PairStands};
+ghost use Rattle.listing.specs.Gates.{gate_meant, no_gate};
 
 use frame::{Gate, Op};
-use listing::{gate_at, op_at, output_at};
 use literal::Literal;
-use netlist::Pair;
+use netlist::pair::Pair;
 
 // A right list's literal as the miter's: its gates lie behind the left list's.
 fn shift(inputs: usize, left: usize, l: u16) -> u16
@@ -24,44 +22,45 @@ fn shift(inputs: usize, left: usize, l: u16) -> u16
 }
 
 // Gate k of both lists, from 0.
-pub fn gate_of(text: &[u8], pair: Pair, k: usize) -> Gate
-    requires { PairStands text.now pair × (k < pair.left + pair.right) }
-    ensures { (w : PairStands text.now pair) → gate_meant result ≡ get_or (gates_of w.left w.right) k no_gate }
+pub fn gate_of(pair: &Pair<'_>, k: usize) -> Gate
+    requires { k < length pair.now.left.gates + length pair.now.right.gates }
+    ensures { gate_meant result ≡ get_or (gates_of pair.now.left pair.now.right) k no_gate }
 {
-    let left = pair.left;
-    if k < left {
-        return gate_at(text, 0, k);
+    let left = pair.left.counts();
+    if k < left.gates {
+        return pair.left.gate(k);
     }
-    let gate = gate_at(text, pair.place, k - left);
+    let gate = pair.right.gate(k - left.gates);
     Gate {
         op: gate.op,
-        x: shift(pair.inputs, left, gate.x),
-        y: shift(pair.inputs, left, gate.y),
+        x: shift(left.inputs, left.gates, gate.x),
+        y: shift(left.inputs, left.gates, gate.y),
     }
 }
 
 // Its operation alone.
-pub fn op_of(text: &[u8], pair: Pair, k: usize) -> Op
-    requires { PairStands text.now pair × (k < pair.left + pair.right) }
-    ensures { (w : PairStands text.now pair) → op_of result ≡ (get_or (gates_of w.left w.right) k no_gate).op }
+pub fn op_of(pair: &Pair<'_>, k: usize) -> Op
+    requires { k < length pair.now.left.gates + length pair.now.right.gates }
+    ensures { op_of result ≡ (get_or (gates_of pair.now.left pair.now.right) k no_gate).op }
 {
-    let left = pair.left;
+    let left = pair.left.counts().gates;
     if k < left {
-        return op_at(text, 0, k);
+        return pair.left.op(k);
     }
-    op_at(text, pair.place, k - left)
+    pair.right.op(k - left)
 }
 
 // The left and the right output k, from 0, as the XOR that compares them.
-pub fn outputs_of(text: &[u8], pair: Pair, k: usize) -> Gate
-    requires { PairStands text.now pair × (k < pair.outputs) }
-    ensures { (w : PairStands text.now pair) → gate_meant result ≡ get_or (z_gates w.left w.right) k no_gate }
+pub fn outputs_of(pair: &Pair<'_>, k: usize) -> Gate
+    requires { k < length pair.now.left.outs }
+    ensures { gate_meant result ≡ get_or (z_gates pair.now.left pair.now.right) k no_gate }
 {
-    let x = output_at(text, 0, pair.left, k);
-    let y = output_at(text, pair.place, pair.right, k);
+    let left = pair.left.counts();
+    let x = pair.left.output(k);
+    let y = pair.right.output(k);
     Gate {
         op: Op::Xor,
         x,
-        y: shift(pair.inputs, pair.left, y),
+        y: shift(left.inputs, left.gates, y),
     }
 }

@@ -1,18 +1,26 @@
 // The numbers of the miter's clauses, which count from 1 (document 01, 'The miter's clauses'): where each part begins, the last, and the first
-// behind the miter. Where the z begin depends on the gates' operations; the others follow from that number and from how many outputs there are.
-ghost use Rattle.std.specs.Prelude.{◌≡◌, ◌+◌, ◌-◌, ◌*◌, ◌≤◌};
+// behind the miter.
+ghost use Rattle.std.specs.Prelude.{◌≡◌, ◌+◌, ◌≤◌};
 ghost use Rattle.model.specs.Miter.{clause_count, first_z_clause};
 ghost use Rattle.frame.specs.Frames.{op_of};
-ghost use Rattle.netlist.specs.Within.{Within};
-ghost use Rattle.miter.specs.Miters.{PairStands};
+ghost use Rattle.miter.specs.Miters.{numbers_of, Numbered};
 
 use crate::both::op_of;
 use frame::Op;
-use netlist::Pair;
-use steps::clause_count;
+use netlist::pair::{Pair, Parts};
+use steps::gates::clause_count;
 
 // The first left gate's first clause, behind 'not variable 0'.
 pub const FIRST_GATE_CLAUSE: u16 = 2;
+
+// Where the parts behind the gates begin.
+#[derive(Clone, Copy, PartialEq, Eq)]
+pub struct ClauseNumbers {
+    pub first_z: u16,
+    pub first_w: u16,
+    pub last: u16,
+    pub behind: u16, // the first step's
+}
 
 // The number behind a gate's clauses, which begin with number k.
 pub fn behind(k: u16, op: Op) -> u16
@@ -23,39 +31,37 @@ pub fn behind(k: u16, op: Op) -> u16
 }
 
 // The first z's first clause, behind those of the gates of both lists.
-pub fn first_z_clause(text: &[u8], pair: Pair) -> u16
-    requires { PairStands text.now pair }
+pub fn first_z_clause(pair: &Pair<'_>) -> u16
     ensures few { result ≤ 8194 }
-    ensures number { (w : PairStands text.now pair) → result ≡ first_z_clause w.left w.right }
+    ensures number { result ≡ first_z_clause pair.now.left pair.now.right }
 {
-    let gates = pair.left + pair.right;
+    let parts = pair.parts();
     let mut next = FIRST_GATE_CLAUSE;
-    for i in 0..gates {
-        next = behind(next, op_of(text, pair, i));
+    for i in 0..parts.left + parts.right {
+        next = behind(next, op_of(pair, i));
     }
     next
 }
 
-// The first w's first clause, where those of the z begin with number z: each is an XOR.
-pub fn first_w_clause(pair: Pair, z: u16) -> u16
-    requires { Within pair × (z ≤ 60000) }
-    ensures { result ≡ z + 4 * pair.outputs }
+// All of them, where those of the z begin with number z: each z is an XOR, and each w an OR.
+pub fn numbers_from(parts: Parts, z: u16) -> ClauseNumbers
+    requires { z ≤ 60000 }
+    ensures { result ≡ numbers_of parts.outputs z }
 {
-    z + 4 * (pair.outputs as u16)
+    let outputs = parts.outputs as u16;
+    let first_w = z + 4 * outputs;
+    let last = first_w + 3 * (outputs - 1);
+    ClauseNumbers {
+        first_z: z,
+        first_w,
+        last,
+        behind: last + 1,
+    }
 }
 
-// The last clause, behind those of the w: each is an OR.
-pub fn last_clause(pair: Pair, z: u16) -> u16
-    requires { Within pair × (z ≤ 60000) }
-    ensures { result ≡ z + 4 * pair.outputs + 3 * (pair.outputs - 1) }
+// Those of two lists.
+pub fn clause_numbers(pair: &Pair<'_>) -> ClauseNumbers
+    ensures { Numbered result pair.now.left pair.now.right }
 {
-    first_w_clause(pair, z) + 3 * (pair.outputs as u16 - 1)
-}
-
-// The first number behind the miter, which is the first step's.
-pub fn first_behind(pair: Pair, z: u16) -> u16
-    requires { Within pair × (z ≤ 60000) }
-    ensures { result ≡ z + 4 * pair.outputs + 3 * (pair.outputs - 1) + 1 }
-{
-    last_clause(pair, z) + 1
+    numbers_from(pair.parts(), first_z_clause(pair))
 }

@@ -4,22 +4,14 @@ ghost use Rattle.std.specs.Prelude.{◌≡◌, true, ℕ, ◌+◌, ◌<◌, ◌�
 ghost use Rattle.model.specs.Limits.{highest_variable};
 ghost use Rattle.model.specs.Nets.{reads_below};
 ghost use Rattle.model.specs.Miter.{miter_gates};
-ghost use Rattle.listing.specs.Listing.{gate_meant, no_gate};
-ghost use Rattle.miter.specs.Miters.{PairStands, Defines, gate_count, w_variable, w_gate};
+ghost use Rattle.listing.specs.Gates.{gate_meant, no_gate};
+ghost use Rattle.miter.specs.Miters.{Defines, gate_count, w_variable, w_gate};
 
 use crate::both::{gate_of, outputs_of};
 use frame::{Gate, Op};
 use literal::Literal;
-use netlist::Pair;
-
-// n = AND or XOR of x, y.
-#[derive(Clone, Copy)]
-pub struct Definition {
-    pub op: Op,
-    pub n: Literal,
-    pub x: Literal,
-    pub y: Literal,
-}
+use netlist::pair::Pair;
+use steps::gates::Definition;
 
 // Variable v as this gate.
 fn defined(v: usize, gate: Gate) -> Definition
@@ -59,17 +51,18 @@ fn w_gate(z: usize, w: usize, k: usize) -> Definition
 }
 
 // Variable v of the miter, from the first left gate on.
-pub fn variable(text: &[u8], pair: Pair, v: usize) -> Definition
-    requires { PairStands text.now pair × (1 + pair.inputs ≤ v) × (v < 1 + pair.inputs + gate_count pair) }
-    ensures { (w : PairStands text.now pair) (i : ℕ) → v ≡ 1 + pair.inputs + i → Defines result v (get_or (miter_gates w.left w.right) i no_gate) }
+pub fn variable(pair: &Pair<'_>, v: usize) -> Definition
+    requires { (1 + pair.now.left.inputs ≤ v) × (v < 1 + pair.now.left.inputs + gate_count pair.now) }
+    ensures { (i : ℕ) → v ≡ 1 + pair.now.left.inputs + i → Defines result v (get_or (miter_gates pair.now.left pair.now.right) i no_gate) }
 {
-    let z = pair.first_z();
+    let parts = pair.parts();
+    let z = parts.first_z();
     if v < z {
-        return defined(v, gate_of(text, pair, v - pair.first_gate()));
+        return defined(v, gate_of(pair, v - parts.first_gate()));
     }
-    let w = pair.first_w();
+    let w = parts.first_w();
     if v < w {
-        return defined(v, outputs_of(text, pair, v - z));
+        return defined(v, outputs_of(pair, v - z));
     }
     w_gate(z, w, v - w)
 }

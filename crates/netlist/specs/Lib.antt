@@ -1,4 +1,4 @@
 pub mod Says
-pub mod Replies
 pub mod Plain
-pub mod Within
+pub mod Pairs
+pub mod Counts

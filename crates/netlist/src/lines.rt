@@ -2,14 +2,16 @@
 // refusals are handed upward by `?`.
 ghost use Rattle.std.specs.Prelude.{◌≡◌, ◌+◌, ◌≤◌, ◌&&◌, leb, ltb};
 ghost use Rattle.model.specs.Limits.{most_inputs, most_gates, most_outputs};
-ghost use Rattle.frame.specs.Frames.{Inside};
-ghost use Rattle.netlist.specs.Says.{DueSays, HeaderSays, GateRefused, GatesSay, OutputRefused, OutputsSay, BodySays, EndSays};
-ghost use Rattle.netlist.specs.Plain.{NoGate, NoOutput};
+ghost use Rattle.model.specs.Lists.{is_gate, is_output};
+ghost use Rattle.frame.specs.Frames.{frame_of};
+ghost use Rattle.netlist.specs.Says.{ahead, DueSays, HeaderSays, GatesSay, OutputsSay, BodySays, EndSays};
+ghost use Rattle.netlist.specs.Plain.{Refused};
 
-use crate::Counts;
-use crate::plain::{plain_gates, plain_outputs};
+use crate::plain::{plain_gate, plain_output, rows};
+use frame::cursor::Cursor;
 use frame::kinds::{GATE_BYTES, OUTPUT_BYTES};
-use frame::{Cursor, Frame, read_line};
+use frame::{Frame, read_line};
+use listing::Counts;
 use refusal::{Reason, Refusal};
 
 pub const MOST_INPUTS: u8 = 64;
@@ -19,11 +21,10 @@ pub const MOST_GATES: u16 = 1024;
 pub const MOST_OUTPUTS: u8 = 64;
 
 // The frame at a cursor where a list's is due, and the cursor behind it: a text that has ended is 4.
-fn due_frame(text: &[u8], cursor: Cursor) -> Result<(Frame, Cursor), Refusal>
-    requires { Inside text.now cursor }
-    ensures { DueSays text.now cursor result }
+fn due_frame(cursor: Cursor<'_>) -> Result<(Frame, Cursor<'_>), Refusal>
+    ensures { DueSays cursor.entry result }
 {
-    let Some(read) = read_line(text, cursor)? else {
+    let Some(read) = read_line(cursor)? else {
         return Err(Reason::End.at(cursor.line));
     };
     Ok(read)
@@ -36,12 +37,11 @@ fn in_range(inputs: u8, gates: u16, outputs: u8) -> bool
     inputs <= MOST_INPUTS && gates <= MOST_GATES && outputs > 0 && outputs <= MOST_OUTPUTS
 }
 
-pub fn read_header(text: &[u8], cursor: Cursor) -> Result<(Counts, Cursor), Refusal>
-    requires { Inside text.now cursor }
-    ensures { HeaderSays text.now cursor result }
+pub fn read_header(cursor: Cursor<'_>) -> Result<(Counts, Cursor<'_>), Refusal>
+    ensures { HeaderSays cursor.entry result }
 {
     let line = cursor.line;
-    let (frame, next) = due_frame(text, cursor)?;
+    let (frame, next) = due_frame(cursor)?;
     let Frame::Header {
         inputs,
         gates,
@@ -63,88 +63,85 @@ pub fn read_header(text: &[u8], cursor: Cursor) -> Result<(Counts, Cursor), Refu
     ))
 }
 
-// The line where the gate that is this net does not stand is refused: of a gate that reads a net that is not below, 7.
-fn refuse_gate(text: &[u8], cursor: Cursor, net: usize) -> Result<Cursor, Refusal>
-    requires { Inside text.now cursor × NoGate text.now cursor.at net }
-    ensures { GateRefused text.now cursor net result }
+// The refusal of a line that ends a row too early: of a frame that is due there, and so reads a net that it may not, 7.
+fn refuse<F: Fn(Frame) -> bool>(cursor: Cursor<'_>, due: F) -> Refusal
+    requires { F.IsAlwaysCallable due }
+    ensures { Refused (F.post due) (ahead cursor.entry) cursor.entry.line result }
 {
-    let (frame, _) = due_frame(text, cursor)?;
-    let Frame::Gate { .. } = frame else {
-        return Err(Reason::Frame.at(cursor.line));
+    let frame = match due_frame(cursor) {
+        Ok((frame, _)) => frame,
+        Err(refusal) => return refusal,
     };
-    Err(Reason::Net.at(cursor.line))
+    if due(frame) {
+        return Reason::Net.at(cursor.line);
+    }
+    Reason::Frame.at(cursor.line)
+}
+
+fn is_gate(frame: Frame) -> bool
+    ensures { result ≡ is_gate (frame_of frame).kind }
+{
+    matches!(frame, Frame::Gate(_))
+}
+
+fn is_output(frame: Frame) -> bool
+    ensures { result ≡ is_output (frame_of frame).kind }
+{
+    matches!(frame, Frame::Output { .. })
 }
 
 // So many gates, of which the first is this net.
-pub fn read_gates(
-    text: &[u8],
-    cursor: Cursor,
-    first: usize,
-    count: usize,
-) -> Result<Cursor, Refusal>
-    requires { Inside text.now cursor × (first ≤ 1 + most_inputs) × (count ≤ most_gates) }
-    ensures { GatesSay text.now cursor first count result }
+pub fn read_gates(cursor: Cursor<'_>, first: usize, count: usize) -> Result<Cursor<'_>, Refusal>
+    requires { (first ≤ 1 + most_inputs) × (count ≤ most_gates) }
+    ensures { GatesSay cursor.entry first count result }
 {
-    let known = plain_gates(text, cursor.at, first, count);
-    let rest = Cursor {
-        at: cursor.at + GATE_BYTES * known,
-        line: cursor.line + known,
-    };
+    let known = rows(
+        cursor.rest,
+        GATE_BYTES,
+        count,
+        |text, i| plain_gate(text, first + i),
+    );
+    let next = cursor.past(GATE_BYTES * known, known);
     if known < count {
-        return refuse_gate(text, rest, first + known);
+        return Err(refuse(next, is_gate));
     }
-    Ok(rest)
+    Ok(next)
 }
 
-// The line where no output of a list with so many nets stands is refused: of an output that reads another net, 7.
-fn refuse_output(text: &[u8], cursor: Cursor, nets: usize) -> Result<Cursor, Refusal>
-    requires { Inside text.now cursor × NoOutput text.now cursor.at nets }
-    ensures { OutputRefused text.now cursor nets result }
+// So many outputs of a list with so many nets. It stands beside `read_gates`: both are the same two calls, but each over a definition of its own, so
+// that one function would only hand both closures and both facts on.
+pub fn read_outputs(cursor: Cursor<'_>, nets: usize, count: usize) -> Result<Cursor<'_>, Refusal>
+    requires { count ≤ most_outputs }
+    ensures { OutputsSay cursor.entry nets count result }
 {
-    let (frame, _) = due_frame(text, cursor)?;
-    let Frame::Output { .. } = frame else {
-        return Err(Reason::Frame.at(cursor.line));
-    };
-    Err(Reason::Net.at(cursor.line))
-}
-
-// So many outputs of a list with so many nets.
-pub fn read_outputs(
-    text: &[u8],
-    cursor: Cursor,
-    nets: usize,
-    count: usize,
-) -> Result<Cursor, Refusal>
-    requires { Inside text.now cursor × (count ≤ most_outputs) }
-    ensures { OutputsSay text.now cursor nets count result }
-{
-    let known = plain_outputs(text, cursor.at, nets, count);
-    let rest = Cursor {
-        at: cursor.at + OUTPUT_BYTES * known,
-        line: cursor.line + known,
-    };
+    let known = rows(
+        cursor.rest,
+        OUTPUT_BYTES,
+        count,
+        |text, _| plain_output(text, nets),
+    );
+    let next = cursor.past(OUTPUT_BYTES * known, known);
     if known < count {
-        return refuse_output(text, rest, nets);
+        return Err(refuse(next, is_output));
     }
-    Ok(rest)
+    Ok(next)
 }
 
 // The gates and the outputs behind a header.
-pub fn read_body(text: &[u8], cursor: Cursor, counts: Counts) -> Result<Cursor, Refusal>
-    requires { Inside text.now cursor × (counts.inputs ≤ most_inputs) × (counts.gates ≤ most_gates) × (counts.outputs ≤ most_outputs) }
-    ensures { BodySays text.now cursor counts result }
+pub fn read_body(cursor: Cursor<'_>, counts: Counts) -> Result<Cursor<'_>, Refusal>
+    requires { (counts.inputs ≤ most_inputs) × (counts.gates ≤ most_gates) × (counts.outputs ≤ most_outputs) }
+    ensures { BodySays cursor.entry counts result }
 {
     let first = 1 + counts.inputs;
-    let next = read_gates(text, cursor, first, counts.gates)?;
-    read_outputs(text, next, first + counts.gates, counts.outputs)
+    let next = read_gates(cursor, first, counts.gates)?;
+    read_outputs(next, first + counts.gates, counts.outputs)
 }
 
 // Nothing more in the text: a line behind a list that should be the end is read like any other, and is then 3.
-pub fn read_end(text: &[u8], cursor: Cursor) -> Result<(), Refusal>
-    requires { Inside text.now cursor }
-    ensures { EndSays text.now cursor result }
+pub fn read_end(cursor: Cursor<'_>) -> Result<(), Refusal>
+    ensures { EndSays cursor.entry result }
 {
-    match read_line(text, cursor)? {
+    match read_line(cursor)? {
         None => Ok(()),
         Some(_) => Err(Reason::Frame.at(cursor.line)),
     }

@@ -1,11 +1,9 @@
 // Gates and outputs in a row whose lines have their frames and read nets that they may. Long lists have no others, and neither frame nor cursor is
 // built for them: how many there are says where they end.
-ghost use Rattle.std.specs.Prelude.{◌≡◌, ◌+◌, ◌≤◌, length};
-ghost use Rattle.model.specs.Limits.{most_inputs, most_gates, most_outputs};
+ghost use Rattle.std.specs.Prelude.{◌≡◌, ℕ, ◌<◌, ◌≤◌, true, length};
 ghost use Rattle.model.specs.Nets.{is_below};
-ghost use Rattle.netlist.specs.Plain.{PlainGate, PlainGates, PlainOutput, PlainOutputs};
+ghost use Rattle.netlist.specs.Plain.{PlainGate, PlainOutput, Rows};
 
-use frame::kinds::{GATE_BYTES, OUTPUT_BYTES};
 use frame::rows::{gate_line, output_line};
 use literal::Literal;
 
@@ -16,50 +14,43 @@ fn is_below(net: usize, literal: u16) -> bool
     (Literal::from(literal).variable() as usize) < net
 }
 
-// Whether the gate that is this net stands at a place.
-fn plain_gate(text: &[u8], at: usize, net: usize) -> bool
-    requires { at ≤ length text.now }
-    ensures { PlainGate text.now at net result }
+// Whether the first line is the gate that is this net.
+pub fn plain_gate(text: &[u8], net: usize) -> bool
+    ensures { PlainGate text.now net result }
 {
-    let Some(gate) = gate_line(text, at) else {
+    let Some(gate) = gate_line(text) else {
         return false;
     };
     is_below(net, gate.x) && is_below(net, gate.y)
 }
 
-// How many of so many gates stand at a place, of which the first is this net.
-pub fn plain_gates(text: &[u8], at: usize, first: usize, count: usize) -> usize
-    requires { (at ≤ length text.now) × (first ≤ 1 + most_inputs) × (count ≤ most_gates) }
-    ensures { PlainGates text.now at first count result }
+// Whether the first line is an output of a list with so many nets.
+pub fn plain_output(text: &[u8], nets: usize) -> bool
+    ensures { PlainOutput text.now nets result }
 {
-    for i in 0..count {
-        if !plain_gate(text, at + GATE_BYTES * i, first + i) {
-            return i;
-        }
-    }
-    count
-}
-
-// Whether an output of a list with so many nets stands at a place.
-fn plain_output(text: &[u8], at: usize, nets: usize) -> bool
-    requires { at ≤ length text.now }
-    ensures { PlainOutput text.now at nets result }
-{
-    let Some(literal) = output_line(text, at) else {
+    let Some(literal) = output_line(text) else {
         return false;
     };
     is_below(nets, literal)
 }
 
-// How many of so many outputs stand at a place.
-pub fn plain_outputs(text: &[u8], at: usize, nets: usize, count: usize) -> usize
-    requires { (at ≤ length text.now) × (count ≤ most_outputs) }
-    ensures { PlainOutputs text.now at nets count result }
+// How many of so many rows stand one behind the other, each with so many bytes: whether row i stands is asked of what is left there.
+pub fn rows<F: Fn(&[u8], usize) -> bool>(
+    text: &[u8],
+    bytes: usize,
+    count: usize,
+    stands: F,
+) -> usize
+    requires asks { (s : _) (i : ℕ) → i < count → F.pre stands s i }
+    requires long { (s : _) (i : ℕ) → i < count → F.post stands s i true → bytes ≤ length s.now }
+    ensures { Rows (F.post stands) bytes text.now count result }
 {
+    let mut rest = text;
     for i in 0..count {
-        if !plain_output(text, at + OUTPUT_BYTES * i, nets) {
+        if !stands(rest, i) {
             return i;
         }
+        rest = &rest[bytes..];
     }
     count
 }

@@ -64,5 +64,6 @@ impl Reason {
 #[derive(Clone, Copy, PartialEq, Eq)]
 pub struct Refusal {
     pub reason: Reason,
+    // 0 where it has no line, as the paper's replies state it.
     pub line: usize,
 }

@@ -1,4 +1,4 @@
--- A verdict within limits: what a report has digits for, and the report of each case.
+-- A verdict within limits: what a report has digits for.
 use Prim.Native.Nat.{ℕ, ◌≤◌, ◌<◌}
 use mathlib.Core.Path.{◌≡◌, sym, ap}
 use mathlib.Core.List.{List}
@@ -7,30 +7,19 @@ use lib.ListN.{length}
 use Rattle.std.specs.Prelude.{Result, Ok, Err}
 use Rattle.model.specs.Limits.{most_clauses, highest_line}
 use Rattle.model.specs.Answers.{Answer}
-use Rattle.model.specs.Answers.Answer.{ok, refused}
+use Rattle.model.specs.Answers.Answer.{refused}
 use Rattle.model.specs.Steps.{State}
-use Rattle.model.specs.Checker.{check, judge, report_of}
+use Rattle.model.specs.Checker.{check, judge}
 use Rattle.laws.specs.Answers.{ok_injective, refused_not_ok}
 use Rattle.laws.specs.Places.{Placed, Counts}
 use Rattle.laws.specs.Places.Placed.{result, place}
 use Rattle.laws.specs.Streams.{over_limit, within_limit}
 use Rattle.laws.specs.Printed.{judge_placed}
-use Rattle.frame.specs.Frames.{report}
 use Rattle.refusal.specs.declared.Refusal.{Refusal}
 use Rattle.refusal.specs.Answers.{answer_of}
 use Rattle.checker.specs.declared.Accepted.{Accepted}
 use Rattle.checker.specs.Verdicts.{counted_of}
 use Rattle.reports.specs.Reports.{Fits}
-
--- ---- the report of each case
-
-pub accepted_report : (c : Accepted) (a : Answer State) → ok c ≡ counted_of a → report 0 0 c.steps c.clauses ≡ report_of a
-accepted_report c (ok s) e = ap (λ (c : Accepted). report 0 0 c.steps c.clauses) (ok_injective e)
-accepted_report c (refused number line) e = absurd (refused_not_ok (sym e))
-
-pub refused_report : (number n line : ℕ) (a : Answer State) → n ≡ number → refused number line ≡ counted_of a → report n line 0 0 ≡ report_of a
-refused_report number n line (ok s) h e = absurd (refused_not_ok e)
-refused_report number n line (refused m l) h e = cc
 
 -- ---- what there are digits for
 

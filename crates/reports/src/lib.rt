@@ -2,8 +2,8 @@
 // checking program prints.
 #![tactic(auto)]
 
-ghost use Rattle.std.specs.Prelude.{◌≡◌, ◌<◌, length};
-ghost use Rattle.model.specs.Limits.{highest_line};
+ghost use Rattle.std.specs.Prelude.{◌≡◌, ◌≤◌, ◌<◌, ◌*◌, ℕ, length};
+ghost use Rattle.model.specs.Limits.{clause_width, most_clauses, highest_line};
 ghost use Rattle.model.specs.Answers.{Answer};
 ghost use Rattle.model.specs.Frames.{line_of};
 ghost use Rattle.model.specs.Steps.{State};
@@ -31,6 +31,7 @@ fn judge(stream: &[u8], bytes: usize, store: &mut [u16]) -> Result<Accepted, Ref
 }
 
 // The report's line of every verdict that comes to these counts or to this refusal.
+// Numbers and no frame: the line has the same place for an accepted proof's counts.
 fn line_of(checked: Result<Accepted, Refusal>) -> [u8; REPORT_BYTES]
     requires { Fits checked }
     ensures { (a : Answer State) → answer_of checked ≡ counted_of a → result ≡ line_of (model.report_of a) }
@@ -49,4 +50,14 @@ pub fn report_within(stream: &[u8], bytes: usize, store: &mut [u16]) -> [u8; REP
     ensures leaves { store.new ≡ model.store_after (length store.old) (model.judge bytes (length store.old) stream.now) }
 {
     line_of(judge(stream, bytes, store))
+}
+
+// The line that a checking program prints, by its two limits: a stream's bytes, and the numbers of a store of its own.
+pub fn report<const BYTES: usize, const NUMBERS: usize>(stream: &[u8]) -> [u8; REPORT_BYTES]
+    requires bytes { BYTES < highest_line }
+    requires numbers { NUMBERS ≤ clause_width * most_clauses }
+    ensures { (clauses : ℕ) → NUMBERS ≡ clause_width * clauses → result ≡ model.program_within BYTES clauses stream.now }
+{
+    let mut store = [0u16; NUMBERS];
+    report_within(stream, BYTES, &mut store)
 }

@@ -1,13 +1,14 @@
 -- A store that holds clauses: clause k is in its numbers, and a clause saved behind the last is held too.
 use Prim.Native.Nat.{ℕ, zero, suc, ◌+◌, ◌-◌, ◌*◌, ◌≤◌, ◌<◌}
 use mathlib.Core.Path.{◌≡◌, refl, sym, ap, ◌∙◌}
-use mathlib.Core.List.{List, [], ◌∷◌, ◌++◌, append_assoc, append-nil}
+use mathlib.Core.List.{List, [], ◌∷◌, ◌++◌, map, append_assoc, append-nil}
 use native.Mathlib.Omega.{arith}
 use lib.ListN.{length, take, drop, get_or, length-append, take-append-drop}
 use native.Mathlib.Numerals.{add-one}
 use lib.Dec.{ltb, eqb}
 use lib.Seq.{sets, sets-eq, length-sets, take_at, take-suc, length-take-le, drop-append-add}
 use Rattle.model.specs.Limits.{clause_width}
+use Rattle.model.specs.Answers.{zeros}
 use Rattle.model.specs.Clauses.{Clause, neg, insert, join, clause_of, and_clauses, xor_clauses}
 use Rattle.laws.specs.Bools.{by_cond}
 use Rattle.model.specs.Checker.{stored, stored_all}
@@ -16,7 +17,7 @@ use Rattle.clause.proofs.StoreLaws.{stored_length}
 use Rattle.clause.proofs.SetLaws.{Small, rising_clause}
 use Rattle.frame.specs.declared.Op.{Op}
 use Rattle.frame.specs.declared.Op.TheVariants.{And, Xor}
-use Rattle.steps.specs.Progress.{clauses_of, AllProper, Held}
+use Rattle.steps.specs.Kept.{clauses_of, AllProper, Held, literals_in, clauses_in}
 
 pub all_width : (cs : List Clause) → AllProper cs → length (stored_all cs) ≡ clause_width * length cs
 unfolding stored_all
@@ -88,6 +89,54 @@ held_more store cs c h p room =
       same = front ∙ ap (λ (l : List ℕ). l ++ stored c) h.same ∙ sym all;
       proper = proper_append cs c h.proper p;
     }
+
+-- ---- the clauses that are there
+
+literals_are : (c : Clause) (k : ℕ) → literals_in (map suc c ++ zeros k) ≡ c
+unfolding literals_in
+literals_are [] zero = refl
+literals_are [] (suc k) = refl
+literals_are (l ∷ c) k = ap (λ (d : Clause). l ∷ d) (literals_are c k)
+
+clauses_are : (cs : List Clause) → AllProper cs → (rest : List ℕ) → clauses_in (length cs) (stored_all cs ++ rest) ≡ cs
+unfolding stored_all clauses_in
+clauses_are [] p rest = refl
+clauses_are (c ∷ cs) p rest =
+    let whole : (stored c ++ stored_all cs) ++ rest ≡ stored c ++ (stored_all cs ++ rest) = append_assoc (stored c) (stored_all cs) rest in
+    let w : clause_width ≡ length (stored c) + 0 = omega (arith, stored_length c p.0.width) in
+    let first : literals_in (take clause_width ((stored c ++ stored_all cs) ++ rest)) ≡ c =
+    ap (λ (s : List ℕ). literals_in (take clause_width s)) whole
+    ∙ ap literals_in (take_at (stored c) (stored_all cs ++ rest) clause_width (stored_length c p.0.width))
+    ∙ literals_are c (clause_width - length c) in
+    let behind : drop clause_width ((stored c ++ stored_all cs) ++ rest) ≡ stored_all cs ++ rest =
+    ap (λ (s : List ℕ). drop clause_width s) whole ∙ ap (λ (n : ℕ). drop n (stored c ++ (stored_all cs ++ rest))) w ∙ drop-append-add (stored c) (stored_all cs ++ rest) 0 in
+    let others = ap (λ (s : List ℕ). clauses_in (length cs) s) behind ∙ clauses_are cs p.1 rest in
+    λ i. first i ∷ others i
+
+-- so many are there
+pub clauses_count : (n : ℕ) (store : List ℕ) → length (clauses_in n store) ≡ n
+unfolding clauses_in
+clauses_count zero store = refl
+clauses_count (suc n) store = ap suc (clauses_count n (drop clause_width store))
+
+-- what a store holds is there
+pub in_held : (store : List ℕ) (cs : List Clause) (n : ℕ) → Held store cs → length cs ≡ n → clauses_in n store ≡ cs
+in_held store cs n h e = rw (sym e) (ap (λ (s : List ℕ). clauses_in (length cs) s) (held_split store cs h) ∙ clauses_are cs h.proper (drop (clause_width * length cs) store))
+
+pub held_in : (store : List ℕ) (cs : List Clause) (n : ℕ) → Held store cs → length cs ≡ n → Held store (clauses_in n store)
+held_in store cs n h e = rw (in_held store cs n h e) h
+
+-- a clause saved behind so many
+pub held_saved : (store : List ℕ) (n : ℕ) (c : Clause) → Held store (clauses_in n store) → Proper c → clause_width * n + clause_width ≤ length store
+    → Held (sets store (clause_width * n) (stored c)) (clauses_in n store ++ (c ∷ []))
+held_saved store n c h p room =
+    let e : clause_width * n ≡ clause_width * length (clauses_in n store) = omega (arith, clauses_count n store) in
+    rw e (held_more store (clauses_in n store) c h p (omega arith))
+
+-- none
+pub none_held : (store : List ℕ) → Held store (clauses_in 0 store)
+unfolding stored_all clauses_in
+none_held store = record { room = omega arith; same = refl; proper = tt }
 
 -- ---- a gate's clauses
 

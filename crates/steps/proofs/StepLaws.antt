@@ -1,14 +1,12 @@
--- What a step is by document 01 in each of the cases that the code tells apart.
-use Prim.Native.Nat.{ℕ, suc, ◌+◌, ◌-◌, ◌*◌, ◌/◌, ◌≤◌, ◌<◌}
+-- What a step is by document 01 in each of the cases that the code tells apart, and the states that the code's fields come to.
+use Prim.Native.Nat.{ℕ, suc, ◌+◌, ◌-◌, ◌/◌, ◌≤◌, ◌<◌}
 use mathlib.Core.Path.{◌≡◌, refl, sym, ap, ◌∙◌, subst}
 use mathlib.Core.Bool.{Bool, true, false, ◌&&◌, and-false}
 use mathlib.Core.List.{List, [], ◌∷◌, ◌++◌}
 use native.Mathlib.Omega.{arith}
-use lib.ListN.{length, length-append}
+use lib.ListN.{length}
 use lib.Dec.{leb, ltb}
-use lib.Seq.{sets}
 use borrow.Author.Tests.{ltb-true, leb-true, lt-ltb, le-ltb, le-leb, lt-leb}
-use Rattle.std.specs.Prelude.{Ok}
 use Rattle.model.specs.Limits.{highest_variable, clause_width}
 use Rattle.model.specs.Answers.{Answer, guard, bind}
 use Rattle.model.specs.Answers.Answer.{ok, refused}
@@ -16,17 +14,15 @@ use Rattle.model.specs.Nets.{is_below}
 use Rattle.model.specs.Clauses.{Clause, is_empty, positive, resolvent, and_clauses, xor_clauses, op_clauses, gate_clauses}
 use Rattle.model.specs.Steps.{State, clause, is_clause, can_resolve, added, resolved, step}
 use Rattle.model.specs.Steps.Step.{resolve}
-use Rattle.model.specs.Checker.{stored}
 use Rattle.laws.specs.Bools.{both}
 use Rattle.laws.specs.Answers.{ok_injective, guard_ok}
-use Rattle.clause.specs.Sets.{Rising, Proper, fitted, resolve_of}
+use Rattle.clause.specs.Sets.{Rising, fitted, resolve_of}
 use Rattle.clause.proofs.SetLaws.{rising_resolvent}
 use Rattle.frame.specs.declared.Op.{Op}
 use Rattle.frame.specs.declared.Op.TheVariants.{And, Xor}
 use Rattle.frame.specs.Frames.{op_of}
-use Rattle.steps.specs.declared.Progress.{Progress}
-use Rattle.steps.specs.Progress.{clauses_of, extension, Held, Tracks, Says, stepped_of}
-use Rattle.steps.proofs.HeldLaws.{proper_at, held_more}
+use Rattle.steps.specs.Kept.{clauses_of, extension, AllProper}
+use Rattle.steps.proofs.HeldLaws.{proper_at}
 
 -- ---- extend
 
@@ -40,10 +36,10 @@ extended op x y s =
       empty = false;
     }
 
-pub gate_clauses_lem : (op : Op) (t x y : ℕ) → gate_clauses t (record { op = op_of op; x = x; y = y }) ≡ clauses_of op (positive t) x y
+pub gate_in_room : (op : Op) (t x y : ℕ) → gate_clauses t (record { op = op_of op; x = x; y = y }) ≡ clauses_of op (positive t) x y
 unfolding op_clauses
-gate_clauses_lem And t x y = refl
-gate_clauses_lem Xor t x y = refl
+gate_in_room And t x y = refl
+gate_in_room Xor t x y = refl
 
 -- a gate has three or four
 pub few : (op : Op) (n x y : ℕ) → (3 ≤ length (clauses_of op n x y)) × (length (clauses_of op n x y) ≤ 4)
@@ -72,7 +68,7 @@ module _ (room line : ℕ) (s : State) (op : Op) (x y : ℕ) where
         lt-ltb (x / 2) s.next hx,
         lt-ltb (y / 2) s.next hy,
         le-leb s.next highest_variable h,
-        gate_clauses_lem op s.next x y,
+        gate_in_room op s.next x y,
         lt-leb _ room full,
       )
 
@@ -84,27 +80,19 @@ module _ (room line : ℕ) (s : State) (op : Op) (x y : ℕ) where
         lt-ltb (x / 2) s.next hx,
         lt-ltb (y / 2) s.next hy,
         le-leb s.next highest_variable h,
-        gate_clauses_lem op s.next x y,
+        gate_in_room op s.next x y,
         le-leb _ room fits,
       )
 
--- the store and the progress stand for that state, where the gate's clauses were added to the store
-pub extended_tracks : {store store' : List ℕ} {p : Progress} {s : State} (op : Op) (x y n count : ℕ) → Tracks store p s → n ≡ positive p.next
-    → count ≡ p.clauses + length (clauses_of op n x y)
-    → ((cs : List Clause) → Held store cs → length cs ≡ p.clauses → Held store' (cs ++ clauses_of op n x y))
-    → Tracks store' (record { clauses = count; next = p.next + 1; steps = p.steps + 1; empty = false }) (extended op x y s)
+one : (n : ℕ) → n + 1 ≡ suc n
+one n = omega arith
+
+-- the state that the fields come to, where the gate's clauses were added
+pub extends_to : (op : Op) (x y n : ℕ) (s d : State) → n ≡ positive s.next → d ≡ record s { clauses = s.clauses ++ clauses_of op n x y }
+    → record { clauses = d.clauses; next = d.next + 1; steps = d.steps + 1; empty = false } ≡ extended op x y s
 unfolding extended
-extended_tracks {store} {store'} {p} {s} op x y n count t en ec kept =
-    let e : n ≡ positive s.next = en ∙ ap positive (sym t.next) in
-    record {
-      held = subst (λ (m : ℕ). Held store' (s.clauses ++ clauses_of op m x y)) e (kept s.clauses t.held t.clauses);
-      clauses =
-          length-append s.clauses (clauses_of op (positive s.next) x y)
-          ∙ subst (λ (m : ℕ). length s.clauses + length (clauses_of op m x y) ≡ count) e (omega (arith, t.clauses));
-      next = omega (arith, t.next);
-      steps = omega (arith, t.steps);
-      empty = refl;
-    }
+extends_to op x y n s d en e =
+    rw (e, en) (λ i. record { clauses = s.clauses ++ clauses_of op (positive s.next) x y; next = one s.next i; steps = one s.steps i; empty = false })
 
 -- ---- resolve
 
@@ -121,37 +109,23 @@ pub joins : (room line : ℕ) (s : State) (r : Clause) → length s.clauses < ro
 unfolding added guard joined
 joins room line s r h = rw (le-leb (length s.clauses + 1) room (omega arith))
 
-pub joined_tracks : {store : List ℕ} {p : Progress} {s : State} {empty : Bool} (r : Clause) (at : ℕ) → Tracks store p s → Proper r → empty ≡ is_empty r
-    → at ≡ clause_width * p.clauses → clause_width * p.clauses + clause_width ≤ length store
-    → Tracks (sets store at (stored r)) (record { clauses = p.clauses + 1; next = p.next; steps = p.steps + 1; empty = empty }) (joined r s)
+-- the state that the fields come to, where the resolvent was added
+pub joins_to : (r : Clause) (s d : State) (empty : Bool) → empty ≡ is_empty r → d ≡ record s { clauses = s.clauses ++ (r ∷ []) }
+    → record { clauses = d.clauses; next = d.next; steps = d.steps + 1; empty = empty } ≡ joined r s
 unfolding joined
-joined_tracks {store} {p} {s} r at t h e is room =
-    let n : at ≡ clause_width * length s.clauses = omega (arith, t.clauses) in
-    record {
-      held = rw n (held_more store s.clauses r t.held h (omega (arith, t.clauses)));
-      clauses = length-append s.clauses (r ∷ []) ∙ omega (arith, t.clauses);
-      next = t.next;
-      steps = omega (arith, t.steps);
-      empty = sym e;
-    }
-
--- the progress after a resolve
-pub counted : {room : ℕ} {a : Answer State} {store : List ℕ} (line : ℕ) (p q : Progress) (empty : Bool)
-    → q.empty ≡ empty → q.next ≡ p.next → q.clauses ≡ p.clauses + 1 → q.steps ≡ p.steps + 1
-    → Says room a store (stepped_of p line (Ok empty)) → Says room a store (Ok q)
-counted line p q empty e n k m h = rw (e, n, k, m) h
+joins_to r s d empty is e = rw (e, is) (λ i. record { clauses = s.clauses ++ (r ∷ []); next = s.next; steps = one s.steps i; empty = is_empty r })
 
 -- what the test tells
 pub number : (n k : ℕ) → ltb 0 k && leb k n ≡ true → (1 ≤ k) × (k ≤ n)
 number n k h = let t = both (ltb 0 k) (leb k n) h in (ltb-true 0 k t.0, leb-true k n t.1)
 
 -- a clause that is there
-pub there : {store : List ℕ} {p : Progress} {s : State} (k : ℕ) → Tracks store p s → ltb 0 k && leb k p.clauses ≡ true → k - 1 < length s.clauses
-there {store} {p} {s} k t h = omega (arith, number p.clauses k h, t.clauses)
+pub there : (cs : List Clause) (k : ℕ) → is_clause cs k ≡ true → k - 1 < length cs
+there cs k h = omega (arith, number (length cs) k h)
 
 -- a clause that the store has rises
-pub rising_at : {store : List ℕ} {p : Progress} {s : State} (k : ℕ) → Tracks store p s → ltb 0 k && leb k p.clauses ≡ true → Rising (clause s.clauses k)
-rising_at {store} {p} {s} k t h = (proper_at s.clauses (k - 1) t.held.proper (omega (arith, number p.clauses k h, t.clauses))).rising
+pub rising_at : (cs : List Clause) (k : ℕ) → AllProper cs → is_clause cs k ≡ true → Rising (clause cs k)
+rising_at cs k p h = (proper_at cs (k - 1) p (there cs k h)).rising
 
 -- a resolvent rises
 pub resolvent_rising : (v : ℕ) (first second r : Clause) (line : ℕ) → Rising first → Rising second → ok r ≡ resolve_of v first second line → Rising r

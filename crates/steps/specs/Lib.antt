@@ -1,1 +1,3 @@
-pub mod Progress
+pub mod Kept
+pub mod Proofs
+pub mod Gates

@@ -2,70 +2,35 @@
 // start, Clause::WIDTH numbers each; the rest of it is of no account here. No work on a step depends on the size of the store.
 #![tactic(auto)]
 
-ghost use Rattle.std.specs.Prelude.{◌≡◌, ℕ, ◌+◌, ◌*◌, ◌<◌, ◌≤◌, List, [], ◌∷◌, ◌++◌, ◌&&◌, leb, ltb, length, get_or};
-ghost use Rattle.model.specs.Clauses as model;
-ghost use Rattle.model.specs.Steps as steps;
-ghost use Rattle.model.specs.Steps.{State};
-ghost use Rattle.model.specs.Limits.{clause_width};
+pub mod gates; // a gate's clauses, put into the store
+
+ghost use Rattle.std.specs.Prelude.{◌≡◌, ℕ, ◌+◌, ◌*◌, ◌<◌, ◌≤◌, [], ◌∷◌, ◌++◌, ◌&&◌, leb, ltb, length, get_or};
+ghost use Rattle.model.specs.Limits.{clause_width, most_clauses, highest_variable};
 ghost use Rattle.clause.specs.Sets.{Rising, resolve_of, answer_of};
-ghost use Rattle.steps.specs.Progress.{clauses_of, extension, Held, Room, Tracks, Within, Says, stepped_of};
+ghost use Rattle.steps.specs.Kept.{extension, Kept, Kept_prop, replied, refused_at};
+ghost use Rattle.steps.specs.Gates.{clauses_for, Low};
 
 use clause::Clause;
-use clause::gates::{AND_CLAUSES, XOR_CLAUSES, and_clause, xor_clause};
 use clause::resolution::{Unresolved, resolve};
 use clause::store::save;
 use frame::Op;
+use gates::{Definition, clause_count, push_gate};
 use literal::Literal;
 use refusal::{Reason, Refusal};
 
-// How far a proof is: clauses so far, the next unused variable, steps done, and whether the last was a resolve with the empty clause.
-#[derive(Clone, Copy)]
-pub struct Progress {
-    pub empty: bool,
-    pub next: u16,
+// The clauses of a proof in a lent store, for how many there is room, and how far the proof is: the next unused variable, steps done, and whether
+// the last was a resolve with the empty clause. Contracts see the definitions' state of it by `state_of`. It has no `impl Model`: behind a model's
+// value a caller does not know any more that the store is the one it lent, and the checker says what that holds. What a `&mut` leaves as it was each
+// method says by itself (`SamePlace`), since a fact of the struct speaks of one moment.
+#[derive(Drop)]
+pub struct Proof<'a> {
+    pub store: &'a mut [u16],
+    pub room: usize,
     pub clauses: usize,
     pub steps: usize,
-}
-
-// How many clauses define a gate.
-pub fn clause_count(op: Op) -> usize
-    ensures { (n x y : ℕ) → result ≡ length (clauses_of op n x y) }
-{
-    match op {
-        Op::And => AND_CLAUSES,
-        Op::Xor => XOR_CLAUSES,
-    }
-}
-
-// Clause j of n = AND or XOR of x, y.
-fn gate_clause(op: Op, n: Literal, x: Literal, y: Literal, j: usize) -> Clause
-    requires { j < length (clauses_of op n.code x.code y.code) }
-    ensures { result ≡ get_or (clauses_of op n.code x.code y.code) j [] }
-{
-    match op {
-        Op::And => and_clause(n, x, y, j),
-        Op::Xor => xor_clause(n, x, y, j),
-    }
-}
-
-// The clauses of n = AND or XOR of x, y, behind so many in the store; how many there are then.
-pub fn push_gate(
-    store: &mut [u16],
-    count: usize,
-    op: Op,
-    n: Literal,
-    x: Literal,
-    y: Literal,
-) -> usize
-    requires { Room (length store.old) count op n x y }
-    ensures { (result ≡ count + length (clauses_of op n.code x.code y.code))
-        × ((cs : List model.Clause) → Held store.old cs → length cs ≡ count → Held store.new (cs ++ clauses_of op n.code x.code y.code)) }
-{
-    let total = clause_count(op);
-    for j in 0..total {
-        save(store, count + j, gate_clause(op, n, x, y, j));
-    }
-    count + total
+    pub next: u16,
+    pub empty: bool,
+    pub ghost kept: { Kept store.now room clauses steps next } by { Kept_prop store.now room clauses steps next },
 }
 
 // Not 0, and not past the last.
@@ -75,122 +40,128 @@ fn is_clause(clauses: usize, k: usize) -> bool
     k != 0 && k <= clauses
 }
 
-// Extend: the next unused variable becomes AND or XOR of two literals over variables in use.
-pub fn extend_step(
-    store: &mut [u16],
-    p: Progress,
-    room: usize,
-    line: usize,
-    op: Op,
-    x: u16,
-    y: u16,
-) -> Result<Progress, Refusal>
-    requires { Within store.old p room }
-    ensures { (s : State) → Tracks store.old p s → Says room (steps.step room line s (extension op x y)) store.new result }
-{
-    let next = p.next;
-    let clauses = p.clauses;
-    let left = Literal::from(x);
-    let right = Literal::from(y);
-    if next <= left.variable() {
-        return Err(Reason::Operand.at(line));
-    }
-    if next <= right.variable() {
-        return Err(Reason::Operand.at(line));
-    }
-    if Literal::HIGHEST_VARIABLE < next {
-        return Err(Reason::Variable.at(line));
-    }
-    let total = clause_count(op);
-    if room < clauses + total {
-        return Err(Reason::Store.at(line));
-    }
-    let n = Literal::positive(next);
-    let count = push_gate(store, clauses, op, n, left, right);
-    Ok(Progress {
-        clauses: count,
-        next: next + 1,
-        steps: p.steps + 1,
-        empty: false,
-    })
-}
+impl<'a> Proof<'a> {
+    ghost use Rattle.model.specs.Steps as steps;
+    ghost use Rattle.steps.specs.Proofs.{state_of, nothing, SamePlace};
 
-// A resolvent becomes the next clause. What this comes to, and what the resolve does, is whether that clause is empty, or the reason of the
-// refusal. These are two bytes; the progress that follows from them is worked out where the loop over a proof's lines has it, and is not copied back.
-fn push_resolvent(
-    store: &mut [u16],
-    p: Progress,
-    room: usize,
-    resolvent: Clause,
-) -> Result<bool, Reason>
-    requires { Within store.old p room × Rising resolvent }
-    ensures { (s : State) (line : ℕ) → Tracks store.old p s → Says room (steps.added room line s (resolvent ∷ []) s.next (model.is_empty resolvent)) store.new (stepped_of p line result) }
-{
-    let clauses = p.clauses;
-    if clauses == room {
-        return Err(Reason::Store);
+    // No clause yet, and room for so many.
+    pub fn new(store: &'a mut [u16], room: usize) -> Proof<'a>
+        requires { (clause_width * room ≤ length store.old) × (room ≤ most_clauses) }
+        ensures state { state_of result ≡ nothing }
+        ensures place { (result.store.ghost_name ≡ store.entry.ghost_name) × (result.room ≡ room) }
+    {
+        Proof {
+            store,
+            room,
+            clauses: 0,
+            steps: 0,
+            next: 0,
+            empty: false,
+        }
     }
-    save(store, clauses, resolvent);
-    Ok(resolvent.is_empty())
-}
 
-// Two clauses of the store, whose numbers are from 0, resolved on v.
-fn resolve_at(store: &[u16], a: usize, b: usize, v: u16) -> Result<Clause, Unresolved>
-    requires { (clause_width * a + clause_width ≤ length store.now) × (clause_width * b + clause_width ≤ length store.now) }
-    ensures { (cs : List model.Clause) (line : ℕ) → Held store.now cs → a < length cs → b < length cs → answer_of result line ≡ resolve_of v (get_or cs a []) (get_or cs b []) line }
-{
-    let first = Clause::WIDTH * a;
-    let second = Clause::WIDTH * b;
-    resolve(
-        &store[first..first + Clause::WIDTH],
-        &store[second..second + Clause::WIDTH],
-        v,
-    )
-}
-
-// The resolvent on v of two clauses, whose numbers are from 1, added to the store.
-fn add_resolvent(
-    store: &mut [u16],
-    p: Progress,
-    room: usize,
-    a: usize,
-    b: usize,
-    v: u16,
-) -> Result<bool, Reason>
-    requires { Within store.old p room }
-    ensures { (s : State) (line : ℕ) → Tracks store.old p s → Says room (steps.step room line s (steps.Step.resolve a b v)) store.new (stepped_of p line result) }
-{
-    if !is_clause(p.clauses, a) {
-        return Err(Reason::Clause);
+    // A clause behind those that are there.
+    pub fn push(&mut self, clause: Clause)
+        requires { (self.old.clauses < self.old.room) × Rising clause }
+        ensures state { state_of self.new ≡ record (state_of self.old) { clauses = (state_of self.old).clauses ++ (clause ∷ []) } }
+        ensures place { SamePlace self.old self.new }
+    {
+        save(self.store, self.clauses, clause);
+        self.clauses += 1;
     }
-    if !is_clause(p.clauses, b) {
-        return Err(Reason::Clause);
-    }
-    let resolvent = resolve_at(store, a - 1, b - 1, v)?;
-    push_resolvent(store, p, room, resolvent)
-}
 
-// Resolve on v: the first clause holds v, the second ¬v. The numbers of clauses are from 1; they are no `frame::Resolve`, whose fields of 16 bits
-// would ask more of a caller.
-pub fn resolve_step(
-    store: &mut [u16],
-    p: Progress,
-    room: usize,
-    line: usize,
-    a: usize,
-    b: usize,
-    v: u16,
-) -> Result<Progress, Refusal>
-    requires { Within store.old p room }
-    ensures { (s : State) → Tracks store.old p s → Says room (steps.step room line s (steps.Step.resolve a b v)) store.new result }
-{
-    match add_resolvent(store, p, room, a, b, v) {
-        Ok(empty) => Ok(Progress {
-            empty,
-            next: p.next,
-            clauses: p.clauses + 1,
-            steps: p.steps + 1,
-        }),
-        Err(reason) => Err(reason.at(line)),
+    // A gate's clauses behind those that are there.
+    pub fn define(&mut self, d: Definition)
+        requires room { self.old.clauses + length (clauses_for d) ≤ self.old.room }
+        requires low { Low d }
+        ensures state { state_of self.new ≡ record (state_of self.old) { clauses = (state_of self.old).clauses ++ clauses_for d } }
+        ensures place { SamePlace self.old self.new }
+    {
+        self.clauses = push_gate(self.store, self.clauses, d);
+    }
+
+    // Variables below this number are in use.
+    pub fn use_variables(&mut self, next: u16)
+        requires { next ≤ highest_variable + 1 }
+        ensures state { state_of self.new ≡ record (state_of self.old) { next = next } }
+        ensures place { SamePlace self.old self.new }
+    {
+        self.next = next;
+    }
+
+    // Extend: the next unused variable becomes AND or XOR of two literals over variables in use.
+    pub fn extend(&mut self, line: usize, op: Op, x: u16, y: u16) -> Result<(), Refusal>
+        ensures step { replied result (state_of self.new) ≡ steps.step self.old.room line (state_of self.old) (extension op x y) }
+        ensures place { SamePlace self.old self.new }
+    {
+        let left = Literal::from(x);
+        let right = Literal::from(y);
+        if self.next <= left.variable() {
+            return Err(Reason::Operand.at(line));
+        }
+        if self.next <= right.variable() {
+            return Err(Reason::Operand.at(line));
+        }
+        if Literal::HIGHEST_VARIABLE < self.next {
+            return Err(Reason::Variable.at(line));
+        }
+        if self.room < self.clauses + clause_count(op) {
+            return Err(Reason::Store.at(line));
+        }
+        self.define(Definition {
+            op,
+            n: Literal::positive(self.next),
+            x: left,
+            y: right,
+        });
+        self.next += 1;
+        self.steps += 1;
+        self.empty = false;
+        Ok(())
+    }
+
+    // Two clauses, whose numbers are from 0, resolved on v.
+    fn resolve_at(&self, a: usize, b: usize, v: u16) -> Result<Clause, Unresolved>
+        requires { (a < self.now.clauses) × (b < self.now.clauses) }
+        ensures { (line : ℕ) → answer_of result line ≡ resolve_of v (get_or (state_of self.now).clauses a []) (get_or (state_of self.now).clauses b []) line }
+    {
+        let first = Clause::WIDTH * a;
+        let second = Clause::WIDTH * b;
+        resolve(
+            &self.store[first..first + Clause::WIDTH],
+            &self.store[second..second + Clause::WIDTH],
+            v,
+        )
+    }
+
+    // The resolvent on v of two clauses, whose numbers are from 1, becomes the next clause; or the reason why not.
+    fn add_resolvent(&mut self, a: usize, b: usize, v: u16) -> Result<(), Reason>
+        ensures step { (line : ℕ) → refused_at line result (state_of self.new) ≡ steps.step self.old.room line (state_of self.old) (steps.Step.resolve a b v) }
+        ensures place { SamePlace self.old self.new }
+    {
+        if !is_clause(self.clauses, a) {
+            return Err(Reason::Clause);
+        }
+        if !is_clause(self.clauses, b) {
+            return Err(Reason::Clause);
+        }
+        let resolvent = self.resolve_at(a - 1, b - 1, v)?;
+        if self.clauses == self.room {
+            return Err(Reason::Store);
+        }
+        self.push(resolvent);
+        self.steps += 1;
+        self.empty = resolvent.is_empty();
+        Ok(())
+    }
+
+    // Resolve on v: the first clause holds v, the second ¬v. The numbers of clauses are from 1; they are no `frame::Resolve`, whose fields of 16
+    // bits would ask more of a caller.
+    pub fn resolve(&mut self, line: usize, a: usize, b: usize, v: u16) -> Result<(), Refusal>
+        ensures step { replied result (state_of self.new) ≡ steps.step self.old.room line (state_of self.old) (steps.Step.resolve a b v) }
+        ensures place { SamePlace self.old self.new }
+    {
+        self.add_resolvent(a, b, v)
+            .map_err(|reason| reason.at(line))
     }
 }

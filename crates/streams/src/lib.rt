@@ -8,11 +8,14 @@ use std::io::{self, Read, Write};
 // The most bytes that a program takes (document 01, refusal 1).
 pub const STREAM_BYTES: usize = 65536;
 
-// One byte more than a stream may have, so that a longer one is seen without being read to its end.
-pub fn room() -> [u8; 65537]
-    ensures { 65537 ≡ length result }
+// A buffer of one byte more, so that a longer stream is seen without being read to its end.
+pub const STREAM_ROOM: usize = 65537;
+
+// An empty buffer. No proof writes its zeros out.
+pub fn room<const N: usize>() -> [u8; N]
+    ensures { length result ≡ N }
 {
-    [0; 65537]
+    [0; N]
 }
 
 // Reads standard input to the start of the buffer, until the stream ends or the buffer is full, after so many bytes; or the error, which the
@@ -22,6 +25,7 @@ pub fn read_stream(rt: &HostRuntime, buf: &mut [u8]) -> io::Result<usize>
 {
     let mut input = rt.stdin();
     let mut done = 0;
+    // Counts the bytes that came: a read may stop short of the end, `read_exact` tells no count there, and `read_to_end` fills a Vec, on the heap.
     while done < buf.len() {
         let more = input.read(&mut buf[done..])?;
         if more == 0 {
@@ -32,10 +36,25 @@ pub fn read_stream(rt: &HostRuntime, buf: &mut [u8]) -> io::Result<usize>
     Ok(done)
 }
 
-// Writes a program's answer, and where that fails its message on standard error.
-pub fn print(rt: &HostRuntime, answer: &[u8], unwritten: &[u8]) {
-    if rt.stdout().write_all(answer).is_err() {
-        complain(rt, unwritten);
+// Hands standard input on to a program's answer, or says on standard error that it was not read to its end. The buffer has a byte more than a
+// stream may have.
+pub fn answer_stream<F: FnOnce(&[u8])>(rt: &HostRuntime, buf: &mut [u8], unread: &[u8], answer: F)
+    requires { F.IsAlwaysCallable answer }
+{
+    match read_stream(rt, buf) {
+        Ok(n) => answer(&buf[..n]),
+        Err(_) => complain(rt, unread),
+    }
+}
+
+// Writes the parts of a program's answer in turn, and where that fails its message on standard error.
+pub fn print(rt: &HostRuntime, parts: &[&[u8]], unwritten: &[u8]) {
+    let mut output = rt.stdout();
+    for part in parts {
+        if output.write_all(part).is_err() {
+            complain(rt, unwritten);
+            return;
+        }
     }
 }
 

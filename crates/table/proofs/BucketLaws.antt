@@ -8,11 +8,13 @@ use native.Mathlib.Omega.{arith}
 use lib.ListN.{length, get_or, set, length-set, length-append, get_or-append}
 use lib.Seq.{sets, get_or-set_same, get_or-set_other, get_or_at}
 use lib.Dec.{eqb}
-use borrow.Author.Tests.{eqb-true, eqb-false, eq-eqb, ne_eqb}
+use borrow.Author.Tests.{eqb-true, eqb-false, eq-eqb, ne_eqb, lt-ltb, le-ltb}
+use Rattle.std.specs.Prelude.{Option, Some, None}
+use Rattle.std.specs.Option.{unwrap_or}
 use Rattle.laws.specs.Bools.{both, by_cond, below_or_at}
 use Rattle.fold_laws.specs.Table as model
 use Rattle.table.specs.Rows.{row_width, row, HoldsTable}
-use Rattle.table.specs.Buckets.{bucket_width, head_at, next_at, mixed, bucket_of, bucket_at, latest, Indexed, Among}
+use Rattle.table.specs.Buckets.{bucket_width, head_at, next_at, mixed, bucket_of, bucket_at, latest, below, Indexed, Among}
 use Rattle.table.proofs.PlaceLaws.{stays_before, stays_behind}
 use Rattle.table.proofs.RowLaws.{entered, search_next, search_none}
 
@@ -203,3 +205,14 @@ module _ (work : List ℕ) (nets v : ℕ) (e : model.Entry) (t : List model.Entr
           head = heads;
           next = nexts;
         }
+
+-- ---- what the walk found
+
+-- a net below this one, or none
+abbrev pub Below : ℕ → Option ℕ → Type 0
+Below v (Some u) = u < v
+Below v None = Unit {0}
+
+pub found_is : (v n : ℕ) (found : Option ℕ) → Below v found → unwrap_or found v ≡ n → found ≡ below v n
+found_is v n (Some u) h e = rw (← e, lt-ltb u v h)
+found_is v n None h e = rw (← e, le-ltb v v (omega arith))

@@ -1,4 +1,4 @@
--- Laws of the numbers of clauses: those of a net more, and rows that stay.
+-- A law of the numbers of clauses: those of a net more.
 use Prim.Native.Nat.{ℕ, zero, suc, ◌+◌, ◌-◌, ◌*◌, ◌<◌, ◌≤◌}
 use mathlib.Core.Path.{◌≡◌, refl, sym, ap, ◌∙◌}
 use mathlib.Core.Bool.{Bool, true, false}
@@ -9,8 +9,6 @@ use lib.Seq.{sets, length-sets, get_or_at}
 use lib.Dec.{ltb}
 use borrow.Author.Tests.{ltb-true, ltb-false}
 use Rattle.model.specs.Answers.{zeros, filled}
-use Rattle.fold_laws.specs.Table as model
-use Rattle.table.specs.Rows.{row_width, HoldsTable}
 use Rattle.table.specs.Links.{link_width, Keeps}
 use Rattle.table.proofs.PlaceLaws.{stays_before, stored_at}
 
@@ -25,30 +23,23 @@ zeros_behind [] n i = no_number n i
 zeros_behind (x ∷ ns) n zero = refl
 zeros_behind (x ∷ ns) n (suc i) = zeros_behind ns n i
 
-module _ (work : List ℕ) (start v : ℕ) (numbers : List ℕ) (four : length numbers ≡ link_width) (r : start + link_width * v + link_width ≤ length work) where
-  pub kept : (links : List (List ℕ)) (ns : List ℕ) → Keeps work start links → length links ≡ v → numbers ≡ filled link_width ns
-      → Keeps (sets work (start + link_width * v) numbers) start (links ++ (ns ∷ []))
+module _ (slice : List ℕ) (v : ℕ) (numbers : List ℕ) (four : length numbers ≡ link_width) (r : link_width * v + link_width ≤ length slice) where
+  pub kept : (links : List (List ℕ)) (ns : List ℕ) → Keeps slice links → length links ≡ v → numbers ≡ filled link_width ns
+      → Keeps (sets slice (link_width * v) numbers) (links ++ (ns ∷ []))
   kept links ns k n e =
       let l : length (links ++ (ns ∷ [])) ≡ v + 1 = rw (length-append, n) in
       record { room = rw (l, length-sets) (omega arith); number = λ u i a b. at u i (omega arith) b (ltb u v) refl }
     where
       at : (u i : ℕ) → u < v + 1 → i < link_width → (q : Bool) → ltb u v ≡ q
-          → get_or (sets work (start + link_width * v) numbers) (start + link_width * u + i) 0 ≡ get_or (get_or (links ++ (ns ∷ [])) u []) i 0
+          → get_or (sets slice (link_width * v) numbers) (link_width * u + i) 0 ≡ get_or (get_or (links ++ (ns ∷ [])) u []) i 0
       at u i a b true q =
           let z : u < v = ltb-true u v q in
-          stays_before work (start + link_width * v) numbers (start + link_width * u + i) (omega arith)
+          stays_before slice (link_width * v) numbers (link_width * u + i) (omega arith)
           ∙ k.number u i (omega arith) b
           ∙ ap (λ (x : List ℕ). get_or x i 0) (sym (get_or-append links (ns ∷ []) [] u (omega arith)))
       at u i a b false q =
           let z : u ≡ v = omega (arith, ltb-false u v q) in
           rw (z, get_or_at links ns [] [] v n)
-          (stored_at work (start + link_width * v) numbers i (omega arith) (omega arith)
+          (stored_at slice (link_width * v) numbers i (omega arith) (omega arith)
           ∙ ap (λ (x : List ℕ). get_or x i 0) e
           ∙ zeros_behind ns (link_width - length ns) i)
-
-  pub rows_stay : (t : List model.Entry) → HoldsTable work t → row_width * length t ≤ start → HoldsTable (sets work (start + link_width * v) numbers) t
-  rows_stay t h s =
-      record {
-        room = rw length-sets h.room;
-        number = λ u i a b. stays_before work (start + link_width * v) numbers (row_width * u + i) (omega arith) ∙ h.number u i a b;
-      }

@@ -38,6 +38,15 @@ entered work t e v r h n =
         ∙ stored_at work (row_width * v) (row e) i (omega arith) b
         ∙ ap (λ (x : model.Entry). get_or (row x) i 0) (sym w)
 
+-- ---- the rows by themselves
+
+-- numbers behind the rows do not matter
+pub front : {work slice : List ℕ} (behind : List ℕ) {t : List model.Entry} → HoldsTable work t → work ≡ slice ++ behind → row_width * length t ≤ length slice → HoldsTable slice t
+front {slice = slice} behind h e r = record {
+  room = r;
+  number = λ u i a b. sym (get_or-append slice behind 0 (row_width * u + i) (omega arith)) ∙ ap (λ (l : List ℕ). get_or l (row_width * u + i) 0) (sym e) ∙ h.number u i a b;
+}
+
 -- ---- the numbers of a row
 
 module _ {work : List ℕ} {t : List model.Entry} (h : HoldsTable work t) {u : ℕ} (n : u < length t) where

@@ -1,6 +1,7 @@
 // The search for the first net with a kind and key, by hashing: each net is in the bucket of its kind and key, and the nets of a bucket are a
 // chain from the latest down. What is stored of a chain is one more than a net, and 0 at its end. Callers see to room alone: a number that no
-// chain has at its place ends a walk, so that the search ends whatever the working numbers hold.
+// chain has at its place ends a walk, so that the search ends whatever the working numbers hold. It is no map of the library, which would be on the
+// heap: document 01 lends the numbers.
 ghost use Rattle.std.specs.Prelude.{◌≡◌, Bool, List, [], ◌∷◌, ◌++◌, ◌+◌, ◌*◌, ◌<◌, ◌≤◌, length, get_or};
 ghost use Rattle.model.specs.Limits.{highest_variable, numbers_per_net};
 ghost use Rattle.fold_laws.specs.Table as model;
@@ -23,7 +24,7 @@ fn bucket(nets: usize, kind: u16, a: Literal, b: Literal) -> usize
     requires { (0 < nets) × (nets ≤ highest_variable + 1) }
     ensures { (result ≡ bucket_of nets kind a.code b.code) × (result < bucket_width * nets) }
 {
-    if a.code == 0 {
+    if a == Literal::FALSE {
         return 0;
     }
     let mixed = ((a.code as usize) * 3242174889
@@ -49,20 +50,22 @@ pub fn empty(work: &mut [u16], nets: usize)
     clear(work, (ROW + LINKS) * nets);
 }
 
-// The least net below v with this kind and key. It is the last on the chain that fits; that keys are unique is not used.
+// The least net below v with this kind and key. It is the last on the chain that fits; that keys are unique is not used. Numbers, nets and net stand
+// apart: `insert` writes the numbers that the others read, so that a struct of the three would be made anew for each net.
 pub fn find(work: &[u16], nets: usize, v: usize, kind: u16, a: Literal, b: Literal) -> Option<usize>
     requires { Among (length work.now) nets v }
     ensures { (t : List model.Entry) (k : Bool) → Indexed work.now nets t → length t ≡ v → kind ≡ model.kind_of k → result ≡ below v (model.find k a.code b.code t v 0) }
 {
     let mut next = net_at(work, (ROW + LINKS) * nets + bucket(nets, kind, a, b), v);
-    let mut found = v; // where none is: an option here costs a twentieth of the time of an entry
+    let mut found = None;
+    // along the links: nothing is counted, and where they end a number says
     while let Some(u) = next {
         if fits(work, u, kind, a, b) {
-            found = u;
+            found = Some(u);
         }
         next = net_at(work, ROW * u + NEXT, u);
     }
-    (found < v).then_some(found)
+    found
 }
 
 // The entry of net v, behind those of the nets before it, and the net at the head of its chain.

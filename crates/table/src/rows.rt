@@ -10,6 +10,7 @@ use literal::Literal;
 
 pub const ROW: usize = 8;
 
+// The kinds of gates' nets; net 0 and the inputs have 0. No enum: they are working numbers of the fixed memory that document 01 has.
 pub const AND: u16 = 2;
 
 pub const XOR: u16 = 3;
@@ -18,7 +19,7 @@ pub const XOR: u16 = 3;
 #[derive(Clone, Copy)]
 pub struct Entry {
     pub rep: Literal,
-    pub kind: u16,
+    pub kind: u16, // AND, XOR or 0: a working number, as it stands in the row
     pub ka: Literal,
     pub kb: Literal,
     pub core: Literal,

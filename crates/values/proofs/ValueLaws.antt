@@ -13,14 +13,15 @@ use Rattle.model.specs.Nets as model
 use Rattle.model.specs.Nets.{Gate, Netlist, net_of, reads_below, size}
 use Rattle.laws.specs.Bools.{below_or_at}
 use Rattle.laws.specs.Literals.{literals_below}
-use Rattle.laws.specs.ListText.{Stands, ordered_at, below_at}
+use Rattle.laws.specs.ListText.{ordered_at, below_at}
+use Rattle.laws.specs.Pairs.{Good}
 use Rattle.laws.specs.Growing.{after, after_length, after_more}
 use Rattle.laws.specs.Values.{Operations, literal_over, gate_over}
 use Rattle.frame.specs.declared.Op.{Op}
 use Rattle.frame.specs.declared.Op.TheVariants.{And, Xor}
 use Rattle.frame.specs.Frames.{op_of, gate_kind}
 use Rattle.frame.specs.declared.Gate as listing
-use Rattle.listing.specs.Listing.{gate_meant, no_gate}
+use Rattle.listing.specs.Gates.{gate_meant, no_gate}
 use Rattle.values.specs.Values.{HoldsBy}
 
 pub hold_none : {A : Type 0} {R : ℕ → A → Type 0} {none : A} {numbers : List ℕ} → HoldsBy R none numbers []
@@ -49,7 +50,7 @@ module _ {A : Type 0} (o : Operations A) (R : ℕ → A → Type 0) where
   abbrev pub Reads : List ℕ → ℕ → ℕ → Type 0
   Reads numbers l v = (vs : List A) → Holding numbers vs → net_of l < length vs → R v (literal_over o vs l)
 
-  module _ {text : List ℕ} {n : Netlist} (s : Stands text n) where
+  module _ {n : Netlist} (s : Good n) where
     -- gate k stored behind the nets before it
     pub gate_stored : (xs : List A) → length xs ≡ 1 + n.inputs → (k : ℕ) {numbers : List ℕ} (g : listing.Gate) (a b v : ℕ) → k < length n.gates
         → Holding numbers (after (gate_over o) xs n.gates k) → 1 + n.inputs + k < length numbers → gate_meant g ≡ get_or n.gates k no_gate
@@ -59,7 +60,7 @@ module _ {A : Type 0} (o : Operations A) (R : ℕ → A → Type 0) where
         let vs : List A = after (gate_over o) xs n.gates k in
         let many : length vs ≡ 1 + n.inputs + k = rw (after_length (gate_over o) xs n.gates k (omega arith), long) in
         let low : reads_below (1 + n.inputs + k) (gate_meant g) ≡ true =
-        subst (λ (q : Gate). reads_below (1 + n.inputs + k) q ≡ true) (sym is) (ordered_at (1 + n.inputs) n.gates k no_gate s.good.ordered h) in
+        subst (λ (q : Gate). reads_below (1 + n.inputs + k) q ≡ true) (sym is) (ordered_at (1 + n.inputs) n.gates k no_gate s.ordered h) in
         let t = literals_below (1 + n.inputs + k) (gate_meant g) low in
         let made : R v (gate_over o vs (gate_meant g)) =
         rw (op_meant g.op) (fv (literal_over o vs g.x) (literal_over o vs g.y) (fa vs before (omega (arith, t.0))) (fb vs before (omega (arith, t.1)))) in
@@ -69,4 +70,4 @@ module _ {A : Type 0} (o : Operations A) (R : ℕ → A → Type 0) where
     pub output_read : {vs : List A} → length vs ≡ size n → (k : ℕ) {numbers : List ℕ} (l v : ℕ) → k < length n.outs
         → Holding numbers vs → l ≡ get_or n.outs k 0 → Reads numbers l v → R v (literal_over o vs (get_or n.outs k 0))
     output_read {vs} long k l v h all is f =
-        rw (← is) (f vs all (omega (arith, ap net_of is, below_at (size n) n.outs k s.good.below h)))
+        rw (← is) (f vs all (omega (arith, ap net_of is, below_at (size n) n.outs k s.below h)))

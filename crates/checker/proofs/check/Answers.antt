@@ -7,15 +7,15 @@ use Rattle.checker.proofs.VerdictLaws.{kept}
 use borrow.Author.Rules.{rules}
 use Rattle.checker.proofs.check.Goals as goal
 
-pub overflow_mul-p : goal.overflow_mul-p
-overflow_mul-p c = omega (arith, c.in-Ok.ensures.3)
+pub overflow_mul-accepted : goal.overflow_mul-accepted
+overflow_mul-accepted c = omega (arith, c.in-Ok.ensures.5)
 
 pub returns-in-Ok : goal.returns-in-Ok
 returns-in-Ok c =
     let v = c.verdict in
     let h = c.in-Ok.ensures in
     let n = length c.args.store.now in
-    record { replies = rw (h.1, h.2.steps, h.2.clauses); leaves = rw h.1 (kept v.new.store _ _ h.0 n h.2 (search rules) c.clear.ensures); agrees = sound _ n h.0 h.1 }
+    record { replies = rw (h.1, h.3, h.4); leaves = rw h.1 (kept v.new.store _ h.0 _ n h.2 h.4 (search rules) c.clear.ensures); agrees = sound _ n h.0 h.1 }
 
 pub returns-in-Err : goal.returns-in-Err
 returns-in-Err c =

@@ -1,8 +1,6 @@
 -- The lists are refused, or the answer to them is the answer to the text (`AnswerLaws`).
 use lib.ListN.{length}
 use Rattle.std.proofs.lemmas.Result.{err_from_is_err_and}
-use Rattle.netlist.proofs.ReplyLaws.{two_lists}
-use Rattle.miter.proofs.ListLaws.{lists_of_lem}
 use Rattle.engine.proofs.AnswerLaws.{unread, answered}
 use Rattle.engine.proofs.answer.Goals as goal
 
@@ -12,11 +10,5 @@ returns-in_err-pair c =
     let p = err_from_is_err_and c.from_residual.result c.from_residual.ensures.1 in
     rw (p.1, p.2) (unread a.text.now (length a.proof.now) (length a.work.now) c.in_err-pair.ensures)
 
-pub folded-requires : goal.folded-requires
-folded-requires c = lists_of_lem (two_lists _ _ c.in_ok-pair.ensures).both
-
 pub returns : goal.returns
-returns c =
-    let f = two_lists _ _ c.in_ok-pair.ensures in
-    let d = c.folded in
-    answered _ _ _ _ f _ d.result (d.ensures (lists_of_lem f.both))
+returns c = answered _ _ _ _ c.in_ok-pair.ensures _ c.folded.result c.folded.ensures

@@ -1,25 +1,24 @@
--- The header's answer, its comparison with the left list's, and the body's answer, put together (`ListLaws`).
-use Rattle.std.proofs.lemmas.Result.{err_from_is_err_and}
-use Rattle.netlist.proofs.ListLaws.{unlike_inputs, unlike_outputs, right_refused, right_read}
+-- The header's answer, its comparison with the left list's, and the rest's answer, put together (`ListLaws`).
+use mathlib.Core.Path.{sym, ◌∙◌}
+use Rattle.model.specs.Lists.{like_left}
+use Rattle.netlist.proofs.ListLaws.{unlike_inputs, unlike_outputs, alike}
 use Rattle.netlist.proofs.read_right.Goals as goal
+use Rattle.netlist.proofs.read_right.Goals.{then-counts-due-via-then-counts-due, then-counts-due-via-else-counts-due+then-counts-due-2}
 
-pub returns-then-counts-left : goal.returns-then-counts-left
-returns-then-counts-left c =
+pub returns-then-counts-due : goal.returns-then-counts-due
+returns-then-counts-due c =
     let a = c.args in
-    rw c.at.ensures (unlike_inputs a.text.now a.left a.middle _ _ c.in_ok-counts.ensures c.if-counts-left.true)
-
-pub returns-then-counts-left-2 : goal.returns-then-counts-left-2
-returns-then-counts-left-2 c =
-    let a = c.args in
-    rw c.at-then-counts-left-2.ensures (unlike_outputs a.text.now a.left a.middle _ _ c.in_ok-counts.ensures c.if-counts-left-2.true)
-
-pub returns-in_err-read_body : goal.returns-in_err-read_body
-returns-in_err-read_body c =
-    let a = c.args in
-    let p = err_from_is_err_and c.from_residual-in_err-read_body.result c.from_residual-in_err-read_body.ensures.1 in
-    rw (p.1, p.2) (right_refused a.text.now a.left a.middle _ _ c.in_ok-counts.ensures c.if-counts-left.false c.if-counts-left-2.false _ c.in_err-read_body.ensures)
+    let s = c.counts-due.ensures in
+    let k = c.in_ok-counts in
+    rw c.at.ensures
+    (elim c.then-counts-due.branch [
+      | then-counts-due-via-then-counts-due w ↦ unlike_inputs a.left.now a.middle k.counts k.body k.ensures (λ e. w.if-counts-due.true (e ∙ sym s.inputs))
+      | then-counts-due-via-else-counts-due+then-counts-due-2 w ↦ unlike_outputs a.left.now a.middle k.counts k.body k.ensures (λ e. w.if-counts-due-2.true (e ∙ sym s.outputs))
+    ])
 
 pub returns : goal.returns
 returns c =
     let a = c.args in
-    right_read a.text.now a.left a.middle _ _ c.in_ok-counts.ensures c.if-counts-left.false c.if-counts-left-2.false _ c.in_ok-read_body.ensures
+    let s = c.counts-due.ensures in
+    let k = c.in_ok-counts in
+    c.read_behind.ensures (like_left a.left.now) (alike a.left.now k.counts (c.if-counts-due.false ∙ s.inputs) (c.if-counts-due-2.false ∙ s.outputs))

@@ -1,6 +1,5 @@
 -- The verdict has a report, and its line is what is printed.
 use lib.ListN.{length}
-use Rattle.model.specs.Checker.{judge}
 use Rattle.reports.proofs.ReportLaws.{judge_fits}
 use Rattle.reports.proofs.report_within.Goals as goal
 
@@ -8,9 +7,3 @@ pub line_of-requires : goal.line_of-requires
 line_of-requires c =
     let a = c.args in
     judge_fits a.bytes (length a.store.now) a.stream.now c.requires c.judge.result c.judge.ensures.replies
-
-pub returns : goal.returns
-returns c =
-    let a = c.args in
-    let h = c.judge.ensures in
-    record { replies = c.line_of.ensures (judge a.bytes (length a.store.now) a.stream.now) h.replies; leaves = h.leaves }

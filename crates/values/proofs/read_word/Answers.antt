@@ -1,8 +1,9 @@
--- The outputs are taken from the last to the first. The invariant: the word so far is that of the outputs from k up, of whatever list stands at
--- the place, and has no more bits than those; so it fits.
-use Prim.Native.Nat.{suc, ◌+◌, ◌-◌, ◌*◌, ◌<◌}
+-- The outputs are taken from the last to the first. The invariant: the word so far is that of the outputs from k up, and has no more bits than
+-- those; so it fits.
+use Prim.Native.Nat.{suc, ◌+◌, ◌-◌}
 use mathlib.Core.Path.{◌≡◌, ◌∙◌}
 use native.Mathlib.Omega.{arith}
+use lib.ListN.{length}
 use Rattle.model.specs.Nets.{literal, nets, eval}
 use Rattle.laws.specs.Values.{truths, length_nets}
 use Rattle.values.specs.Values.{IsBit}
@@ -12,36 +13,40 @@ use Rattle.values.proofs.read_word.Goals as goal
 
 pub loop-k-init : goal.loop-k-init
 loop-k-init c =
-    let a = c.args in
-    let z : a.outputs - a.outputs ≡ 0 = omega arith in
-    (omega arith, rw z (omega arith), λ n p s g o h. word_end n (nets n p) a.outputs (omega arith))
+    let n = c.args.list.now in
+    let s = c.counts-k.ensures in
+    let z : length n.outs - c.counts-k.result.outputs ≡ 0 = omega (arith, s.outputs) in
+    (omega (arith, s.outputs), rw z (omega arith), λ p h. word_end n (nets n p) c.counts-k.result.outputs (omega (arith, s.outputs)))
 
 pub overflow_mul-word : goal.overflow_mul-word
 overflow_mul-word c =
-    let word_room : 2 * c.loop-k.word + c.literal_at-bit.result < 18446744073709551616 = let l = c.loop-k in
-    word_fits l.word c.literal_at-bit.result (c.args.outputs - l.k) l.invariant.1 c.literal_at-bit.ensures.small (omega arith) in
-    omega (arith, word_room)
+    let l = c.loop-k in
+    let b = c.literal_at-bit in
+    let s = c.counts-k.ensures in
+    omega (arith, word_fits l.word b.result (length c.args.list.now.outs - l.k) l.invariant.1 b.ensures.small (omega (arith, s.good.outs)))
 
 pub overflow_add-word : goal.overflow_add-word
 overflow_add-word c =
-    let word_room : 2 * c.loop-k.word + c.literal_at-bit.result < 18446744073709551616 = let l = c.loop-k in
-    word_fits l.word c.literal_at-bit.result (c.args.outputs - l.k) l.invariant.1 c.literal_at-bit.ensures.small (omega arith) in
-    omega (arith, word_room)
+    let l = c.loop-k in
+    let b = c.literal_at-bit in
+    let s = c.counts-k.ensures in
+    omega (arith, word_fits l.word b.result (length c.args.list.now.outs - l.k) l.invariant.1 b.ensures.small (omega (arith, s.good.outs)))
 
 pub loop-k-preserved : goal.loop-k-preserved
 unfolding literal
 loop-k-preserved c =
-    let a = c.args in
+    let n = c.args.list.now in
+    let s = c.counts-k.ensures in
     let l = c.loop-k in
     let v = l.invariant in
     let b = c.literal_at-bit in
-    let e : a.outputs - (l.k - 1) ≡ suc (a.outputs - l.k) = omega arith in
+    let e : length n.outs - (l.k - 1) ≡ suc (length n.outs - l.k) = omega arith in
     let k : l.k - 1 + 1 ≡ l.k = omega arith in (
       omega arith,
-      rw e (double l.word b.result (a.outputs - l.k) v.1 b.ensures.small),
-      λ n p s g o h.
-          let is = output_read truths IsBit s (length_nets n p) (l.k - 1) _ b.result (omega arith) h (c.output_at.ensures n s g (omega arith)) (rw c.from.ensures at b.ensures.value) in
-          rw (v.2 n p s g o h, is) (rw k at (word_more n (nets n p) (l.k - 1) (omega arith))),
+      rw e (double l.word b.result (length n.outs - l.k) v.1 b.ensures.small),
+      λ p h.
+          let is = output_read truths IsBit s.good (length_nets n p) (l.k - 1) _ b.result (omega arith) h c.output.ensures (rw c.from.ensures at b.ensures.value) in
+          rw (v.2 p h, is) (rw k at (word_more n (nets n p) (l.k - 1) (omega arith))),
     )
 
 pub returns : goal.returns
@@ -49,4 +54,4 @@ unfolding eval
 returns c =
     let l = c.loop-k in
     let z : l.k ≡ 0 = omega arith in
-    λ n p s g o h. l.invariant.2 n p s g o h ∙ rw z
+    λ p h. l.invariant.2 p h ∙ rw z

@@ -1,7 +1,9 @@
 -- The two limits of this program in the shared report.
+use native.Mathlib.Omega.{arith}
+use Rattle.model.specs.Limits.{most_clauses}
 use Rattle.cec_check_large.specs.Large.{large_program}
 use Rattle.cec_check_large.proofs.report.report.Goals as goal
 
 pub returns : goal.returns
 unfolding large_program
-returns c = rw c.store-store.ensures at c.report_within.ensures.replies
+returns c = c.report.ensures most_clauses (omega arith)

@@ -1,20 +1,17 @@
 -- Each arm knows its case of the answer; a proof lies within the buffer, and a report has digits for its line (`StreamLaws`).
+use mathlib.Core.Path.{◌≡◌, refl}
 use native.Mathlib.Omega.{arith}
-use mathlib.Core.Path.{◌≡◌}
 use lib.ListN.{length}
 use Rattle.cec_prove.specs.Streams.{proof_bytes}
 use Rattle.cec_prove.proofs.StreamLaws.{proof_printed, report_printed}
 use borrow.Author.Rules.{rules}
 use Rattle.cec_prove.proofs.evidence.evidence.Goals as goal
 
-pub overflow_mul-behind : goal.overflow_mul-behind
-overflow_mul-behind c = omega (arith, c.in-Ok.ensures.4)
-
 pub returns-in-Ok : goal.returns-in-Ok
-returns-in-Ok c = proof_printed c.args.stream.now _ _ (omega arith) (omega arith) c.in-Ok.ensures
+returns-in-Ok c = proof_printed c.args.stream.now _ _ refl (omega arith) c.in-Ok.ensures
 
 pub returns-in-Err : goal.returns-in-Err
 returns-in-Err c =
     let h = c.in-Err.ensures in
     let long : length c.prove_stream.new.out ≡ proof_bytes = search rules in
-    report_printed c.args.stream.now _ _ _ _ (omega arith) (omega arith) h.0 h.1 (omega arith) (rw long at c.write_frame.ensures.leaves)
+    report_printed c.args.stream.now _ _ _ refl (omega arith) h.0 h.1 (search rules) (rw long at c.write_frame.ensures.leaves)

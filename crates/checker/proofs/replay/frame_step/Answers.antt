@@ -1,16 +1,23 @@
 -- A resolve, an extension, or any other frame (`ReplayLaws`).
+use mathlib.Core.Path.{sym}
+use Rattle.steps.specs.Proofs.{state_of}
 use Rattle.checker.proofs.ReplayLaws.{frame_resolve, frame_extend, frame_other}
 use Rattle.checker.proofs.replay.frame_step.Goals as goal
 
-pub returns-in-Resolve : goal.returns-in-Resolve
-returns-in-Resolve c s t =
+pub returns-in-Resolve-clause-step : goal.returns-in-Resolve-clause-step
+returns-in-Resolve-clause-step c =
     let a = c.args in
-    rw (c.in-Resolve.is, frame_resolve a.room a.line s c.in-Resolve.first c.in-Resolve.second c.in-Resolve.variable) (c.resolve_step.ensures s t)
+    let p = a.proof.now in
+    rw (c.in-Resolve.is, frame_resolve p.room a.line (state_of p) c.in-Resolve.step) c.resolve.ensures.step
 
-pub returns-in-Extend : goal.returns-in-Extend
-returns-in-Extend c s t =
+pub returns-in-Extend-clause-step : goal.returns-in-Extend-clause-step
+returns-in-Extend-clause-step c =
     let a = c.args in
-    rw (c.in-Extend.is, frame_extend a.room a.line s c.in-Extend.op c.in-Extend.x c.in-Extend.y) (c.extend_step.ensures s t)
+    let p = a.proof.now in
+    rw (c.in-Extend.is, frame_extend p.room a.line (state_of p) c.in-Extend.gate) c.extend.ensures.step
 
-pub returns-in_default : goal.returns-in_default
-returns-in_default c s t = rw c.at.ensures (frame_other c.args.room c.args.line s c.args.frame c.in_default.not-Resolve c.in_default.not-Extend)
+pub returns-in_default-clause-step : goal.returns-in_default-clause-step
+returns-in_default-clause-step c =
+    let a = c.args in
+    let p = a.proof.now in
+    rw c.at.ensures (sym (frame_other p.room a.line (state_of p) a.frame c.in_default.not-Resolve c.in_default.not-Extend))

@@ -1,22 +1,30 @@
--- The invariant: the lines up to the cursor are replayed, whatever the state was (`ReplayLaws`). The measure is what is left of the text.
-use mathlib.Core.Path.{◌≡◌}
+-- The invariant: the lines up to the cursor are replayed (`ReplayLaws`). The measure is what is left of the text.
+use Prim.Native.Nat.{ℕ}
+use mathlib.Core.Path.{ap, ◌∙◌}
 use native.Mathlib.Omega.{arith}
-use borrow.Author.Rules.{rules}
-use lib.ListN.{length}
 use Rattle.std.proofs.lemmas.Result.{err_from_is_err_and}
-use Rattle.checker.proofs.ReplayLaws.{ran_joined, ran_refused, ran_resolve, resolve_refused}
+use Rattle.model.specs.Steps.{step}
+use Rattle.model.specs.Steps.Step.{resolve}
+use Rattle.steps.specs.Proofs.{state_of}
+use Rattle.checker.proofs.ReplayLaws.{past_shorter, ran_resolve, resolve_refused}
 use Rattle.checker.proofs.replay.run_resolves.Goals as goal
 
-pub returns-in_err-p : goal.returns-in_err-p
-returns-in_err-p c =
+pub returns-in_err-resolve-clause-ran : goal.returns-in_err-resolve-clause-ran
+returns-in_err-resolve-clause-ran c =
     let l = c.loop-step in
+    let f = c.in-Some.step in
     let p = err_from_is_err_and c.from_residual.result c.from_residual.ensures.1 in
-    rw (p.1, p.2) (ran_refused l.invariant.0 (resolve_refused c.args.room c.args.text.now l.c l.invariant.0.inside c.in-Some.ensures l.store l.p c.in_err-p.ensures))
+    let does = c.in_err-resolve.ensures.step ∙ ap (λ (k : ℕ). step k l.c.line (state_of l.proof) (resolve f.first f.second f.variable)) l.invariant.1.1 in
+    rw (p.1, p.2) (l.invariant.0 ∙ resolve_refused c.args.proof.now.room l.c c.in-Some.ensures (state_of l.proof) does)
 
 pub loop-step-preserved : goal.loop-step-preserved
 loop-step-preserved c =
     let l = c.loop-step in
-    let step = c.resolve_step in
-    let long : length step.new.store ≡ length l.store = search rules in
-    let ran = ran_resolve c.args.room c.args.text.now l.c l.invariant.0.inside c.in-Some.ensures l.store l.p step.new.store _ l.invariant.0.within long c.in_ok-p.ensures in
-    (ran_joined l.invariant.0 ran, omega (arith, l.invariant.1))
+    let f = c.in-Some.step in
+    let q = c.resolve.new.self in
+    let next = c.past-c in
+    let does = c.in_ok-resolve.ensures.step ∙ ap (λ (k : ℕ). step k l.c.line (state_of l.proof) (resolve f.first f.second f.variable)) l.invariant.1.1 in
+    let ran = ran_resolve c.args.proof.now.room l.c c.in-Some.ensures (state_of l.proof) next.result next.ensures (state_of q) does in
+    let place = c.resolve.ensures.place in
+    let shorter = past_shorter l.c.rest.now next.ensures.0 in
+    (l.invariant.0 ∙ ran, (place.0 ∙ l.invariant.1.0, place.1 ∙ l.invariant.1.1), omega (arith, l.invariant.2, shorter))

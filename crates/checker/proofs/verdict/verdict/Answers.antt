@@ -1,53 +1,62 @@
 -- Reader, miter and replay in turn: where one refuses, so does the definition, and behind the last the empty clause decides (`VerdictLaws`).
-use mathlib.Core.Path.{◌∙◌}
+use Prim.Native.Nat.{ℕ}
+use mathlib.Core.Path.{refl, ap, sym, ◌∙◌, subst}
+use mathlib.Core.List.{List}
+use borrow.Author.Rules.{rules}
 use native.Mathlib.Omega.{arith}
-use borrow.Author.Tests.{not-true, not-false}
 use lib.ListN.{length}
 use Rattle.std.proofs.lemmas.Result.{err_from_is_err_and}
-use Rattle.netlist.proofs.ReplyLaws.{both_lists}
-use Rattle.miter.proofs.ListLaws.{lists_of_lem}
+use Rattle.model.specs.Steps.{replay}
+use Rattle.netlist.specs.Says.{ahead}
+use Rattle.steps.specs.Kept.{Held, clauses_in}
+use Rattle.steps.specs.Proofs.{state_of}
+use Rattle.steps.proofs.HeldLaws.{clauses_count}
 use Rattle.checker.proofs.VerdictLaws.{capacity_fits, unread, begin_refused, replay_refused, not_empty, accepted}
 use Rattle.checker.proofs.verdict.verdict.Goals as goal
 
 pub returns-in_err-pair : goal.returns-in_err-pair
 returns-in_err-pair c =
     let p = err_from_is_err_and c.from_residual.result c.from_residual.ensures.1 in
-    rw (p.1, p.2) (unread c.args.text.now (length c.args.store.now) c.in_err-pair.ensures)
+    rw (p.1, p.2) (unread c.args.text.now (length c.args.store.now) c.in_err-pair.ensures.reads)
 
-pub begin-requires : goal.begin-requires
-begin-requires c =
+pub new-proof-requires : goal.new-proof-requires
+new-proof-requires c =
     let room = c.capacity-room in
     let f = capacity_fits (length c.args.store.now) in
-    (lists_of_lem (both_lists _ _ c.in_ok-pair.ensures), omega (arith, room.ensures), omega (arith, room.ensures))
+    (omega (arith, room.ensures), omega (arith, room.ensures))
 
-pub returns-in_err-start : goal.returns-in_err-start
-returns-in_err-start c =
-    let b = both_lists _ _ c.in_ok-pair.ensures in
-    let p = err_from_is_err_and c.from_residual-in_err-start.result c.from_residual-in_err-start.ensures.1 in
-    rw (p.1, p.2) (begin_refused b _ _ c.capacity-room.ensures (c.in_err-start.ensures (lists_of_lem b)))
+pub returns-in_err-begin : goal.returns-in_err-begin
+returns-in_err-begin c =
+    let r = c.in_ok-pair in
+    let p = err_from_is_err_and c.from_residual-in_err-begin.result c.from_residual-in_err-begin.ensures.1 in
+    rw (p.1, p.2) (begin_refused _ r.pair r.next r.ensures.reads _ _ (c.new-proof.ensures.place.1 ∙ c.capacity-room.ensures) (sym c.in_err-begin.ensures.begins))
 
-pub replay-requires : goal.replay-requires
-replay-requires c =
-    let b = both_lists _ _ c.in_ok-pair.ensures in
-    (b.inside, (c.in_ok-start.ensures (lists_of_lem b)).3)
+pub returns-in_err-replay : goal.returns-in_err-replay
+returns-in_err-replay c =
+    let r = c.in_ok-pair in
+    let s = state_of c.begin.new.proof in
+    let all = c.in_err-replay.ensures.replays ∙ ap (λ (k : ℕ). replay k s (ahead r.next) r.next.line) c.begin.ensures.place.1 in
+    let p = err_from_is_err_and c.from_residual-in_err-replay.result c.from_residual-in_err-replay.ensures.1 in
+    rw (p.1, p.2) (replay_refused _ r.pair r.next r.ensures.reads _ _ (c.new-proof.ensures.place.1 ∙ c.capacity-room.ensures) s (sym c.in_ok-begin.ensures.begins) (sym all))
 
-pub returns-in_err-p : goal.returns-in_err-p
-returns-in_err-p c =
-    let b = both_lists _ _ c.in_ok-pair.ensures in
-    let s = c.in_ok-start.ensures (lists_of_lem b) in
-    let p = err_from_is_err_and c.from_residual-in_err-p.result c.from_residual-in_err-p.ensures.1 in
-    rw (p.1, p.2) (replay_refused b _ _ c.capacity-room.ensures s.0 s.1 (c.in_err-p.ensures s.0 s.2))
-
-pub returns-then-not-p : goal.returns-then-not-p
-returns-then-not-p c =
-    let b = both_lists _ _ c.in_ok-pair.ensures in
-    let s = c.in_ok-start.ensures (lists_of_lem b) in
-    let end = c.in_ok-p.ensures s.0 s.2 in
-    rw c.at.ensures (not_empty b _ _ c.capacity-room.ensures s.0 s.1 end.0 end.1 (end.2.empty ∙ not-true _ c.if-not-p.true))
+pub returns-then-not-proof : goal.returns-then-not-proof
+returns-then-not-proof c =
+    let r = c.in_ok-pair in
+    let s = state_of c.begin.new.proof in
+    let all = c.in_ok-replay.ensures.replays ∙ ap (λ (k : ℕ). replay k s (ahead r.next) r.next.line) c.begin.ensures.place.1 in
+    rw c.at.ensures
+    (not_empty _ r.pair r.next r.ensures.reads _ _ (c.new-proof.ensures.place.1 ∙ c.capacity-room.ensures) s (sym c.in_ok-begin.ensures.begins) (state_of c.replay.new.proof) (sym all) c.if-not-proof.true)
 
 pub returns : goal.returns
 returns c =
-    let b = both_lists _ _ c.in_ok-pair.ensures in
-    let s = c.in_ok-start.ensures (lists_of_lem b) in
-    let end = c.in_ok-p.ensures s.0 s.2 in
-    (end.0, accepted b _ _ c.capacity-room.ensures s.0 s.1 end.0 end.1 (end.2.empty ∙ not-false _ c.if-not-p.false), end.2, omega (arith, end.3.clauses, end.3.most))
+    let r = c.in_ok-pair in
+    let s = state_of c.begin.new.proof in
+    let end = c.replay.new.proof in
+    let all = c.in_ok-replay.ensures.replays ∙ ap (λ (k : ℕ). replay k s (ahead r.next) r.next.line) c.begin.ensures.place.1 in (
+      state_of end,
+      accepted _ r.pair r.next r.ensures.reads _ _ (c.new-proof.ensures.place.1 ∙ c.capacity-room.ensures) s (sym c.in_ok-begin.ensures.begins) (state_of end) (sym all) c.if-not-proof.false,
+      subst (λ (t : List ℕ). Held t (clauses_in end.clauses end.store.now)) (search rules) end.kept.held,
+      refl,
+      clauses_count end.clauses end.store.now,
+      omega (arith, end.kept.in_room, end.kept.most),
+    )

@@ -7,5 +7,5 @@ pub returns-clause-emits : goal.returns-clause-emits
 returns-clause-emits c =
     λ t links k h u.
     emits_cut (c.subst2-second.ensures.emits t links k h.y h.y)
-    (emits_cut_right (c.subst2-first.ensures.emits t links k h.x h.x) (rw (c.number_at.ensures links k.numbers u, c.representative.ensures t k.rows (omega arith)) at c.resolve_on-half.ensures.emits))
-    (rw (c.representative-2.ensures t k.rows (omega arith)) at c.resolve_on.ensures.emits)
+    (emits_cut_right (c.subst2-first.ensures.emits t links k h.x h.x) (rw (c.number_at.ensures links k.numbers u, c.representative.ensures t k.rows (omega arith)) at c.resolve-half.ensures.emits))
+    (rw (c.representative-2.ensures t k.rows (omega arith)) at c.resolve.ensures.emits)

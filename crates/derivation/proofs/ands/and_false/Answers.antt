@@ -7,4 +7,4 @@ use Rattle.derivation.proofs.ands.and_false.Goals as goal
 pub returns-clause-emits : goal.returns-clause-emits
 unfolding and_trees
 returns-clause-emits c =
-    λ t links k h. emits_two (c.link2-down.ensures.emits t links k (omega arith) h.x h.x) (emits_old _ _ 0 c.given.ensures) c.two_links.ensures
+    λ t links k h. emits_two (c.link2-down.ensures.emits t links k (omega arith) h.x h.x) (emits_old _ 0)

@@ -10,12 +10,12 @@ use Rattle.derivation.proofs.ands.and_gate.Goals.{then-eq-2-via-then-eq-2, then-
 pub returns-then-eq-clause-emits : goal.returns-then-eq-clause-emits
 unfolding and_case
 returns-then-eq-clause-emits c =
-    and_case_lem c.args.d c.representative-p.ensures c.representative-q.ensures (rw (← c.if-eq.ensures)) c.and_false.ensures.emits
+    and_case_lem c.args.nets c.args.d c.representative-p.ensures c.representative-q.ensures (rw (← c.if-eq.ensures)) c.and_false.ensures.emits
 
 pub returns-then-eq-2-clause-emits : goal.returns-then-eq-2-clause-emits
 unfolding and_case
 returns-then-eq-2-clause-emits c =
-    and_case_lem c.args.d c.representative-p.ensures c.representative-q.ensures
+    and_case_lem c.args.nets c.args.d c.representative-p.ensures c.representative-q.ensures
     (elim c.then-eq-2.branch [
       | then-eq-2-via-then-eq-2 w ↦ rw (← c.if-eq.ensures, ← w.if-eq-2.ensures)
       | then-eq-2-via-else-eq-2+then-eq-3 w ↦
@@ -28,7 +28,7 @@ pub returns-then-eq-4-clause-emits : goal.returns-then-eq-4-clause-emits
 unfolding and_case
 returns-then-eq-4-clause-emits c =
     let differ : eqb c.representative-p.result.code c.representative-q.result.code ≡ false = cc in
-    and_case_lem c.args.d c.representative-p.ensures c.representative-q.ensures
+    and_case_lem c.args.nets c.args.d c.representative-p.ensures c.representative-q.ensures
     (rw (← c.if-eq.ensures, ← c.if-eq-2.ensures, differ, ← c.complement.ensures, ← c.if-eq-4.ensures))
     c.and_opposite.ensures.emits
 
@@ -36,6 +36,6 @@ pub returns-clause-emits : goal.returns-clause-emits
 unfolding and_case
 returns-clause-emits c =
     let differ : eqb c.representative-p.result.code c.representative-q.result.code ≡ false = cc in
-    and_case_lem c.args.d c.representative-p.ensures c.representative-q.ensures
+    and_case_lem c.args.nets c.args.d c.representative-p.ensures c.representative-q.ensures
     (rw (← c.if-eq.ensures, ← c.if-eq-2.ensures, differ, ← c.complement.ensures, ← c.if-eq-4.ensures))
     c.and_pair.ensures.emits

@@ -9,5 +9,5 @@ unfolding and_trees
 returns-clause-emits c =
     λ t links k h.
     emits_two
-    (emits_cut (c.subst2-first.ensures.emits t links k h.x h.x) (c.subst2-second.ensures.emits t links k h.y h.y) (rw (c.representative.ensures t k.rows (omega arith)) at c.resolve_on-down.ensures.emits))
-    (emits_old _ _ 0 c.given.ensures) c.two_links.ensures
+    (emits_cut (c.subst2-first.ensures.emits t links k h.x h.x) (c.subst2-second.ensures.emits t links k h.y h.y) (rw (c.representative.ensures t k.rows (omega arith)) at c.resolve-down.ensures.emits))
+    (emits_old _ 0)

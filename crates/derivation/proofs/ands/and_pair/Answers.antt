@@ -19,4 +19,4 @@ returns-clause-emits c = λ t links k h.
     let done : c.variable-u.result < length links = rw (c.variable-u.ensures, e) (hit_done c.args.d k h (rw (← e, ← c.if-eq.ensures))) in
     rw (← e, ← c.if-eq.ensures)
     (emits_two (rw c.variable-u.ensures at (c.and_down-down.ensures.emits t links k h done))
-    (rw c.variable-u.ensures at (c.and_up-up.ensures.emits t links k h done)) c.two_links.ensures)
+    (rw c.variable-u.ensures at (c.and_up-up.ensures.emits t links k h done)))

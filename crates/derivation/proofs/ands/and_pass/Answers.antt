@@ -12,4 +12,4 @@ returns-clause-emits c =
     let y = c.complement-not_y.ensures in
     λ t links k h.
     emits_two (c.link2-down.ensures.emits t links k (omega arith) h.y h.y)
-    (rw (n, x, y) at (c.link2-up.ensures.emits t links k (omega (arith, n)) (omega (arith, x)) (omega (arith, y)))) c.two_links.ensures
+    (rw (n, x, y) at (c.link2-up.ensures.emits t links k (omega (arith, n)) (omega (arith, x)) (omega (arith, y))))

@@ -11,7 +11,7 @@ pub returns-then-eq-clause-emits : goal.returns-then-eq-clause-emits
 returns-then-eq-clause-emits c = λ t links k m h i.
     let a = c.args in
     emits_no_link (rep_of t) (link_of links) (old a.c) a.l.code a.n.code a.m.code (rw (← c.representative.ensures t k.rows m) (sym c.if-eq.ensures))
-    (emits_old _ _ _ c.given.ensures)
+    (emits_old _ _)
 
 pub returns-clause-emits : goal.returns-clause-emits
 returns-clause-emits c = λ t links k m h i.

@@ -15,7 +15,7 @@ returns-then-gt-clause-emits c = λ t links k h.
     let a = c.args in
     emits_own (rep_of t) (link_of links) (old a.c) a.l.code
     (rw (← c.representative.ensures t k.rows (omega arith), ← c.if-eq.ensures, ← own_test a.l.code) (sym c.if-gt.ensures))
-    (emits_old _ _ _ c.given.ensures)
+    (emits_old _ _)
 
 pub returns-clause-emits : goal.returns-clause-emits
 returns-clause-emits c = λ t links k h.
@@ -25,4 +25,4 @@ returns-clause-emits c = λ t links k h.
       | else-eq-via-then-eq+else-gt w ↦ rw (← own_test a.l.code, ← w.if-gt.ensures, and-false)
       | else-eq-via-else-eq w ↦ rw (← w.if-eq.ensures)
     ]))
-    (rw (c.link.ensures links k.numbers h) at c.resolve_on.ensures.emits)
+    (rw (c.link.ensures links k.numbers h) at c.resolve.ensures.emits)

@@ -11,4 +11,4 @@ returns-clause-emits c =
     let y = c.complement-not_y.ensures in
     λ t links k h.
     emits_two (c.link2-down.ensures.emits t links k (omega arith) h.x h.y)
-    (rw (n, y) at (c.link2-up.ensures.emits t links k (omega (arith, n)) h.x (omega (arith, y)))) c.two_links.ensures
+    (rw (n, y) at (c.link2-up.ensures.emits t links k (omega (arith, n)) h.x (omega (arith, y))))

@@ -12,5 +12,5 @@ returns-clause-emits c =
     λ t links k h.
     emits_two
     (emits_cut (c.subst2-first.ensures.emits t links k h.x h.y)
-    (rw (x, y) at (c.subst2-fourth.ensures.emits t links k (omega (arith, x)) (omega (arith, y)))) (rw (c.representative.ensures t k.rows (omega arith)) at c.resolve_on-down.ensures.emits))
-    (emits_old _ _ 0 c.given.ensures) c.two_links.ensures
+    (rw (x, y) at (c.subst2-fourth.ensures.emits t links k (omega (arith, x)) (omega (arith, y)))) (rw (c.representative.ensures t k.rows (omega arith)) at c.resolve-down.ensures.emits))
+    (emits_old _ 0)

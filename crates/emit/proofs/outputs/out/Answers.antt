@@ -38,4 +38,4 @@ returns-clause-emits c t links known hx hy =
     rw (← out_both (rep_of t) (link_of links) a.k a.x a.y (λ r. grind (arith, e, r)) (λ r. grind (arith, e, r)) not_x not_y, ← e)
     (emits_cut (rw (x, y) at (c.subst2-first.ensures.emits t links known (rw x hx) (rw y hy)))
     (c.subst2-fourth.ensures.emits t links known (omega (arith, not_x)) (omega (arith, not_y)))
-    c.resolve_on.ensures.emits)
+    c.resolve.ensures.emits)

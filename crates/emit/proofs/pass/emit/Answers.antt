@@ -1,35 +1,30 @@
 -- The gates' lines, and then those of the outputs, are the definition's (`PassLaws`).
 use native.Mathlib.Omega.{arith}
-use Prim.Native.Nat.{ℕ, ◌+◌, ◌-◌, ◌*◌}
-use mathlib.Core.Path.{◌≡◌, refl, sym, ◌∙◌, subst}
-use lib.ListN.{length}
-use Rattle.model.specs.Miter.{gates_of, first_gate_clause}
+use mathlib.Core.Path.{refl, ◌∙◌}
+use Rattle.model.specs.Miter.{gates_of}
 use Rattle.laws.specs.MiterOrder.{length_gates}
 use Rattle.fold_laws.proofs.Entries.{length_table}
 use Rattle.fold_laws.specs.Engine.{both_table}
-use Rattle.emit_laws.specs.Emit.{start_links}
-use Rattle.table.specs.Links.{Keeps}
-use Rattle.derivation.specs.Known.{Known}
-use Rattle.emit.specs.declared.pass.Progress.{Progress}
+use Rattle.table.specs.Rows.{HoldsTable}
+use Rattle.table.proofs.RowLaws.{front}
 use Rattle.emit.proofs.PassLaws.{known_first, emitted}
+use borrow.Author.Rules.{rules}
 use Rattle.emit.proofs.pass.emit.Goals as goal
 
 pub returns : goal.returns
-returns c w h b =
-    let a = c.args in
-    let t = both_table w.left w.right in
-    let n = length_table w.left.inputs (gates_of w.left w.right) in
-    let m = length_gates w.left w.right w.alike in
-    let long : length t ≡ 1 + a.pair.inputs + a.pair.left + a.pair.right = omega (arith, n, m, w.inputs, w.left_gates, w.right_gates_lem) in
-    let z = c.first_z_clause-z.ensures.number w in
-    let behind = c.first_behind-first in
-    let start : ℕ = 8 * c.nets-start.result in
-    let begin : Progress = record { lines = 0; clauses = behind.result - 1; next = first_gate_clause } in
+returns c h b =
+    let p = c.args.pair.now in
+    let ab = c.parts-parts.ensures.alike in
+    let t = both_table p.left p.right in
+    let n = length_table p.left.inputs (gates_of p.left p.right) in
+    let m = length_gates p.left p.right ab in
+    let k = c.clause_numbers-numbers.ensures in
+    let counts = c.parts-parts.ensures.counts in
+    let halves = c.split_at_mut-table.ensures in
+    let table = c.split_at_mut-table.result.0.now in
+    let rows : HoldsTable table t = front c.split_at_mut-table.result.1.now h halves.value (omega (arith, n, m, c.nets.ensures, counts.inputs, counts.left, counts.right, halves.front_len)) in
     let s = c.start_links in
-    let g = c.gates-done in
-    let o = c.outputs-all in
-    let rows = s.ensures.stays t h (omega (arith, c.nets-start.ensures)) in
-    let first = known_first w.left w.right w.alike s.new.work start rows (omega (arith, c.nets-start.ensures)) (subst (λ (i : ℕ). Keeps s.new.work start (start_links i)) (sym w.inputs) s.ensures.keeps) in
-    let all = g.ensures.done w t (subst (λ (i : ℕ). Known s.new.work start t (start_links i)) w.inputs first) long in
-    emitted a.proof.now _ _ _ start begin g.result (record { lines = g.result.lines; clauses = g.result.clauses; clause = 0 }) o.result t w.left w.right refl (omega (arith, behind.ensures, z, w.outputs)) refl refl all
-    (o.ensures.emits w t _ all.known (all.nets ∙ omega (arith, m, w.inputs, w.left_gates, w.right_gates_lem)) z) b
+    let first = known_first p.left p.right ab table s.new.links rows (rw counts.inputs at s.ensures) in
+    let all = c.gates.ensures.done t first (omega (arith, n, m)) in
+    emitted _ _ _ table _ t p.left p.right refl (omega (arith, k.last, k.behind)) all
+    (c.outputs.ensures.adds t _ all.known (all.nets ∙ omega (arith, m))) b (search rules)

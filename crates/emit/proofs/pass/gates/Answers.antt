@@ -1,6 +1,6 @@
 -- The invariant: the lines of the gates below i are written, and what is left of the loop makes up the whole (`PassLaws`).
 use Prim.Native.Nat.{◌+◌, ◌<◌}
-use mathlib.Core.Path.{◌≡◌}
+use mathlib.Core.Path.{◌≡◌, refl, ◌∙◌}
 use native.Mathlib.Omega.{arith}
 use lib.ListN.{length}
 use Rattle.model.specs.Miter.{first_gate, gates_of}
@@ -12,32 +12,41 @@ pub loop-i-init : goal.loop-i-init
 loop-i-init c =
     let a = c.args in (
       omega arith,
-      omega arith,
-      omega arith,
-      λ w t k n. up_to_none a.proof.now a.at a.start t w.left w.right a.work.now (rw w.inputs k) c.requires.3,
+      record { same_bytes = refl; length_kept = refl; lines = omega arith; clauses = omega arith },
+      λ t k n. up_to_none a.proof.now a.table.now t a.pair.now.left a.pair.now.right a.links.now k,
     )
 
 pub loop-i-preserved : goal.loop-i-preserved
 loop-i-preserved c =
-    let o = c.one_gate-done in
+    let o = c.one_gate-k in
     let l = c.loop-i in
+    let few = o.ensures.few.0 in
+    let so_far = l.invariant.1 in
     let first = c.first_gate-first in
-    let a = c.args in (
-      omega (arith, o.ensures.few.lines, l.invariant.0),
-      omega (arith, o.ensures.few.clauses, l.invariant.1),
-      omega (arith, o.ensures.few.next, l.invariant.2),
-      λ w t k n.
-          let u = l.invariant.3 w t k n in
-          let h : l.i < length (gates_of w.left w.right) = omega (arith, length_gates w.left w.right w.alike, w.left_gates, w.right_gates_lem) in
-          let e : first.result + l.i ≡ first_gate w.left + l.i = omega (arith, first.ensures, w.inputs) in
-          let low = reads_done a.proof.now a.at a.start t w.left w.right w.alike l.i _ _ h (c.gate_of-gate.ensures w) e in
-          up_to_next a.proof.now a.at a.start t w.left w.right l.proof _ l.work o.new.work l.done o.result l.i _ _ h (c.gate_of-gate.ensures w) e u
-          (o.ensures.done t u.links u.known (omega (arith, u.long, first.ensures)) (omega (arith, first.ensures)) low),
+    let a = c.args in
+    let p = a.pair.now in
+    let ab = c.parts-parts.ensures.alike in
+    let n = c.parts-parts.ensures.counts in (
+      omega (arith, o.ensures.few.1, l.invariant.0),
+      record {
+        same_bytes = few.same_bytes ∙ so_far.same_bytes;
+        length_kept = few.length_kept ∙ so_far.length_kept;
+        lines = omega (arith, few.lines, so_far.lines);
+        clauses = omega (arith, few.clauses, so_far.clauses);
+      },
+      λ t k q.
+          let u = l.invariant.2 t k q in
+          let h : l.i < length (gates_of p.left p.right) = omega (arith, length_gates p.left p.right ab, n.left, n.right) in
+          let e : first.result + l.i ≡ first_gate p.left + l.i = omega (arith, first.ensures, n.inputs) in
+          let low = reads_done a.proof.now a.table.now t p.left p.right ab l.i _ _ h c.gate_of-gate.ensures e in
+          up_to_next a.proof.now a.table.now t p.left p.right l.proof _ l.links o.new.links l.i _ _ _ _ h c.gate_of-gate.ensures e u
+          (o.ensures.done t u.links u.known (omega (arith, u.long, first.ensures, n.inputs)) (omega (arith, first.ensures, n.inputs)) low),
     )
 
 pub returns-clause-done : goal.returns-clause-done
-returns-clause-done c w t k n =
+returns-clause-done c t k n =
     let a = c.args in
+    let p = a.pair.now in
     let l = c.loop-i in
-    up_to_all a.proof.now a.at a.start t w.left w.right l.proof l.work l.done l.i
-    (omega (arith, length_gates w.left w.right w.alike, w.left_gates, w.right_gates_lem)) (l.invariant.3 w t k n)
+    up_to_all a.proof.now a.table.now t p.left p.right l.proof l.links l.i _
+    (omega (arith, length_gates p.left p.right c.parts-parts.ensures.alike, c.parts-parts.ensures.counts.left, c.parts-parts.ensures.counts.right)) (l.invariant.2 t k n)

@@ -15,7 +15,7 @@ returns-in-Header c =
 pub returns-in-Gate : goal.returns-in-Gate
 unfolding widths
 returns-in-Gate c =
-    let e = operands_widths false c.in-Gate.op in
+    let e = operands_widths false c.in-Gate.gate.op in
     rw (c.in-Gate.is, c.into-in-Gate.ensures, c.into-in-Gate-2.ensures, c.into-in-Gate-3.ensures)
     (record { kind = refl; values = refl; widths = rw e; long = rw e; room = omega arith })
 
@@ -32,7 +32,7 @@ returns-in-Resolve c =
 pub returns-in-Extend : goal.returns-in-Extend
 unfolding widths
 returns-in-Extend c =
-    let e = operands_widths true c.in-Extend.op in
+    let e = operands_widths true c.in-Extend.gate.op in
     rw (c.in-Extend.is, c.into-in-Extend.ensures, c.into-in-Extend-2.ensures, c.into-in-Extend-3.ensures)
     (record { kind = refl; values = refl; widths = rw e; long = rw e; room = omega arith })
 

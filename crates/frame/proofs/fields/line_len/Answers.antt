@@ -11,7 +11,7 @@ returns-in-Header c = rw c.in-Header.is (sym (line_by_widths _ _ refl refl))
 
 pub returns-in-Gate : goal.returns-in-Gate
 unfolding widths total
-returns-in-Gate c = rw c.in-Gate.is (sym (line_by_widths _ _ (sym (operands_widths false c.in-Gate.op)) refl))
+returns-in-Gate c = rw c.in-Gate.is (sym (line_by_widths _ _ (sym (operands_widths false c.in-Gate.field-0.op)) refl))
 
 pub returns-in-Output : goal.returns-in-Output
 unfolding widths total
@@ -23,7 +23,7 @@ returns-in-Resolve c = rw c.in-Resolve.is (sym (line_by_widths _ _ refl refl))
 
 pub returns-in-Extend : goal.returns-in-Extend
 unfolding widths total
-returns-in-Extend c = rw c.in-Extend.is (sym (line_by_widths _ _ (sym (operands_widths true c.in-Extend.op)) refl))
+returns-in-Extend c = rw c.in-Extend.is (sym (line_by_widths _ _ (sym (operands_widths true c.in-Extend.field-0.op)) refl))
 
 pub returns-in-Report : goal.returns-in-Report
 unfolding widths total

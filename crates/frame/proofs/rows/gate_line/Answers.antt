@@ -11,7 +11,7 @@ returns-in_err-op c = rw c.from_residual.ensures c.in_err-op.ensures
 pub returns-in_err-x : goal.returns-in_err-x
 returns-in_err-x c =
     let refused = c.in_err-x.ensures _ c.in_ok-op.ensures (operands_widths false c.in_ok-op.op) in
-    rw c.from_residual-in_err-x.ensures (λ g. lacks_refused c.args.text.now c.args.at c.requires refused (gate_frame g))
+    rw c.from_residual-in_err-x.ensures (λ g. lacks_refused c.args.text.now refused (gate_frame g))
 
 pub returns : goal.returns
 returns c = c.in_ok-x.ensures _ c.in_ok-op.ensures (operands_widths false c.in_ok-op.op)

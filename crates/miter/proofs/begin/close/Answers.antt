@@ -1,33 +1,31 @@
 -- Without room for the last clause it is 8; else the miter is whole (`BeginLaws`).
-use mathlib.Core.Path.{◌≡◌}
+use Prim.Native.Nat.{◌+◌}
+use mathlib.Core.Path.{◌≡◌, ap, sym, ◌∙◌}
+use mathlib.Core.List.{[], ◌∷◌}
 use native.Mathlib.Omega.{arith}
 use lib.ListN.{length}
+use Rattle.model.specs.Answers.Answer.{ok}
 use Rattle.model.specs.Miter.{miter_gates}
-use Rattle.model.specs.Checker.{begin}
+use Rattle.steps.specs.Proofs.{state_of}
 use Rattle.miter.specs.Miters.{gates_up_to}
-use Rattle.miter.proofs.BeginLaws.{begin_short, begins, begin_tracks}
-use borrow.Author.Rules.{rules}
+use Rattle.miter.proofs.BeginLaws.{unit_clause, unit_proper, begin_short, begins, begins_with, counted, last_put}
 use Rattle.miter.proofs.begin.close.Goals as goal
 
-pub returns-then-count-room : goal.returns-then-count-room
-returns-then-count-room c a b held n v = rw c.at.ensures (begin_short c.args.room a b c.args.count n (omega arith))
+pub returns-then-proof-clause-begins : goal.returns-then-proof-clause-begins
+returns-then-proof-clause-begins c a b e v =
+    let p = c.args.proof.now in
+    rw c.at.ensures (sym (begin_short p.room a b p.clauses (counted p _ e) (omega arith)))
 
-pub returns : goal.returns
-returns c a b held n v =
-    let x = c.args in
-    let u = c.put_unit in
-    let l : length u.new.store ≡ length x.store.now = search rules in
-    let q = begin_tracks x.room a b x.count n u.new.store x.last _ c.positive.ensures (u.ensures (gates_up_to a b (length (miter_gates a b))) held n) v in (
-      begin a b,
-      begins x.room a b x.count n (omega (arith, c.requires.1)),
-      q,
-      record {
-        state = begin a b;
-        tracks = q;
-        numbers_for_all = omega (arith, l, c.requires.0.numbers_for_all);
-        most = c.requires.0.most;
-        clauses = omega (arith, c.requires.1);
-        steps = omega arith;
-        next = omega (arith, c.requires.2);
-      },
-    )
+pub push-requires : goal.push-requires
+push-requires c =
+    let l = c.positive.result.code in
+    (omega (arith, c.args.proof.now.kept.in_room), rw (c.of.ensures, unit_clause l) (unit_proper l (omega (arith, c.positive.ensures, c.requires))).rising)
+
+pub returns-clause-begins : goal.returns-clause-begins
+returns-clause-begins c a b e v =
+    let p = c.args.proof.now in
+    let l = c.positive.result.code in
+    let u : c.of.result ≡ l ∷ [] = c.of.ensures ∙ unit_clause l in
+    ap ok (c.use_variables.ensures.state ∙ last_put (state_of p) (state_of c.push.new.self) (gates_up_to a b (length (miter_gates a b))) _ l (c.args.last + 1) e c.push.ensures.state u
+    ∙ begins_with a b c.args.last l c.positive.ensures v)
+    ∙ sym (begins p.room a b p.clauses (counted p _ e) (omega (arith, p.kept.in_room)))

@@ -1,82 +1,71 @@
--- The invariant: of whatever two lists stand in the text, the store holds the first clause and those of the variables before v.
+-- The invariant: the first clause and those of the variables before v are there.
 use Prim.Native.Nat.{ℕ, ◌+◌, ◌-◌}
-use mathlib.Core.Path.{◌≡◌, refl, ◌∙◌}
+use mathlib.Core.Path.{◌≡◌, refl, ap, sym, ◌∙◌}
 use native.Mathlib.Omega.{arith}
-use borrow.Author.Rules.{rules}
-use lib.ListN.{length}
+use Rattle.steps.specs.Gates.{clauses_for}
+use Rattle.steps.specs.Proofs.{state_of}
 use Rattle.miter.specs.Miters.{gate_count, gates_up_to}
 use Rattle.steps.proofs.StepLaws.{few}
-use Rattle.miter.proofs.BeginLaws.{none_yet, variable_held, variable_short}
+use Rattle.miter.proofs.MiterLaws.{gate_total}
+use Rattle.miter.proofs.BeginLaws.{none_yet, one_more, variable_short, counted, one_put}
 use Rattle.miter.proofs.begin.write_variables.Goals as goal
 
 pub loop-v-init : goal.loop-v-init
-loop-v-init c =
-    let r = c.requires in (
-      omega arith,
-      omega arith,
-      omega arith,
-      r.1.some,
-      refl,
-      λ w i e. let n : i ≡ 0 = omega arith in rw n (none_yet w.left w.right r.2),
-    )
+loop-v-init c = (
+  omega arith,
+  omega arith,
+  (refl, refl),
+  λ i e.
+      let l = c.args.pair.now in
+      let p = c.args.proof.now in
+      let n : i ≡ 0 = omega arith in
+      let all = c.requires ∙ sym (none_yet l.left l.right) ∙ ap (λ (k : ℕ). gates_up_to l.left l.right k) (sym n) in
+      λ j. record { clauses = all j; next = p.next; steps = p.steps; empty = p.empty },
+)
 
-pub overflow_add-count : goal.overflow_add-count
-overflow_add-count c =
+pub overflow_add-proof : goal.overflow_add-proof
+overflow_add-proof c =
     let d = c.variable-d.result in
-    let r = c.requires in
-    omega (arith, c.clause_count.ensures d.n.code d.x.code d.y.code, (few d.op d.n.code d.x.code d.y.code).1, r.1.most)
+    let k = c.loop-v.proof.kept in
+    omega (arith, c.clause_count.ensures d.n.code d.x.code d.y.code, (few d.op d.n.code d.x.code d.y.code).1, k.in_room, k.most)
 
-pub returns-then-room-count : goal.returns-then-room-count
-returns-then-room-count c w =
+pub returns-then-proof-clause_count-clause-fills : goal.returns-then-proof-clause_count-clause-fills
+returns-then-proof-clause_count-clause-fills c =
     let a = c.args in
+    let p = a.pair.now in
     let l = c.loop-v in
     let u = c.variable-d in
     let d = u.result in
-    let i : ℕ = l.v - (1 + a.pair.inputs) in
-    let e : l.v ≡ 1 + a.pair.inputs + i = omega arith in (
+    let i : ℕ = l.v - (1 + p.left.inputs) in
+    let e : l.v ≡ 1 + p.left.inputs + i = omega arith in
+    let n = counted l.proof _ (l.invariant.3 i e) in (
       c.at.ensures,
-      variable_short w l.v i l.count d e (omega arith) (u.ensures w i e) (l.invariant.5 w i e).1 a.room
-          (omega (arith, c.clause_count.ensures d.n.code d.x.code d.y.code)),
+      variable_short p.left p.right l.v i l.proof.clauses d e (omega (arith, gate_total c.parts-parts.ensures.alike)) (u.ensures i e) n a.proof.now.room (gate_count p)
+          (omega (arith, c.clause_count.ensures d.n.code d.x.code d.y.code, l.invariant.2.1)) (omega arith),
     )
 
-pub push_gate-count-requires : goal.push_gate-count-requires
-push_gate-count-requires c =
-    let l = c.loop-v in
-    let d = c.variable-d.result in
-    let def = c.variable-d.ensures c.requires.0 (l.v - (1 + c.args.pair.inputs)) (omega arith) in
-    record {
-      numbers_for_all = omega (arith, c.requires.1.numbers_for_all, l.invariant.4, c.clause_count.ensures d.n.code d.x.code d.y.code);
-      few = omega (arith, c.requires.1.most, l.invariant.3);
-      low_n = def.low_n;
-      low_x = def.low_x;
-      low_y = def.low_y;
-    }
+pub define-requires-clause-low : goal.define-requires-clause-low
+define-requires-clause-low c =
+    let def = c.variable-d.ensures (c.loop-v.v - (1 + c.args.pair.now.left.inputs)) (omega arith) in
+    def.low
 
 pub loop-v-preserved : goal.loop-v-preserved
 loop-v-preserved c =
     let l = c.loop-v in
     let d = c.variable-d.result in
-    let g = c.push_gate-count in
-    let k = c.clause_count.ensures d.n.code d.x.code d.y.code in
-    let all = c.variables-v-end.ensures in
-    let same : length g.new.store ≡ length l.store = search rules in
-    let n = g.ensures.0 in (
+    let g = c.define in
+    let end = c.variables-v-end.ensures in (
       omega arith,
       omega arith,
-      omega arith,
-      omega arith,
-      same ∙ l.invariant.4,
-      λ w i e.
+      (g.ensures.place.0 ∙ l.invariant.2.0, g.ensures.place.1 ∙ l.invariant.2.1),
+      λ i e.
+          let p = c.args.pair.now in
           let j : ℕ = i - 1 in
           let next : i ≡ j + 1 = omega arith in
-          let at : l.v ≡ 1 + c.args.pair.inputs + j = omega arith in
-          let held = l.invariant.5 w j at in
-          rw next (variable_held w l.v j l.count d at (omega arith) (c.variable-d.ensures w j at) held.1 g.new.store g.result n
-          (g.ensures.1 (gates_up_to w.left w.right j) held.0 held.1)),
+          let at : l.v ≡ 1 + p.left.inputs + j = omega arith in
+          let before = l.invariant.3 j at in
+          let n = counted l.proof _ before in
+          let more = ap (λ (k : ℕ). gates_up_to p.left p.right k) next ∙ one_more p.left p.right l.v j l.proof.clauses d at (omega (arith, gate_total c.parts-parts.ensures.alike)) (c.variable-d.ensures j at) n in
+          one_put (state_of c.args.proof.now) (state_of l.proof) (state_of g.new.self) (gates_up_to p.left p.right j) (clauses_for d)
+          (gates_up_to p.left p.right i) before g.ensures.state more,
     )
-
-pub returns : goal.returns
-returns c w =
-    let l = c.loop-v in
-    let h = l.invariant.5 w (gate_count c.args.pair) (omega (arith, c.variables-v-end.ensures)) in
-    (h.0, h.1, l.invariant.3)

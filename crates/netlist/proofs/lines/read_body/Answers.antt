@@ -7,9 +7,9 @@ pub returns-in_err-next : goal.returns-in_err-next
 returns-in_err-next c =
     let a = c.args in
     let p = err_from_is_err_and c.from_residual.result c.from_residual.ensures.1 in
-    rw (p.1, p.2) (gates_refuse a.text.now a.cursor a.counts _ c.in_err-next.ensures)
+    rw (p.1, p.2) (gates_refuse a.cursor a.counts _ c.in_err-next.ensures)
 
 pub returns : goal.returns
 returns c =
     let a = c.args in
-    body_says a.text.now a.cursor a.counts _ c.in_ok-next.ensures c.read_outputs.result c.read_outputs.ensures
+    body_says a.cursor a.counts c.in_ok-next.next c.in_ok-next.ensures c.read_outputs.result c.read_outputs.ensures

@@ -1,20 +1,27 @@
 -- The row, and the refusal of the line that ends it; or the row is all (`LoopLaws`).
 use native.Mathlib.Omega.{arith}
+use Rattle.std.proofs.Common.{rules}
 use Rattle.netlist.proofs.LoopLaws.{gates_refuse}
-use Rattle.netlist.proofs.PlainLaws.{all_gates}
+use Rattle.netlist.proofs.PlainLaws.{gates_known, gate_stop, all_gates, refused_at, gate_refused}
 use Rattle.netlist.proofs.lines.read_gates.Goals as goal
 
-pub refuse_gate-requires : goal.refuse_gate-requires
-refuse_gate-requires c =
-    let known = c.plain_gates-known.ensures in
-    ((known.0.1 c.args.cursor.line c.requires.0.line).inside, known.1 c.if-known-count.true)
+pub past-next-requires : goal.past-next-requires
+past-next-requires c =
+    let a = c.args in
+    (omega arith, (gates_known a.cursor.rest.now a.first a.count c.rows-known.result c.rows-known.ensures (λ s j r p. search rules)).0)
 
 pub returns-then-known-count : goal.returns-then-known-count
 returns-then-known-count c =
-    let known = c.plain_gates-known in
-    gates_refuse c.args.text.now c.args.cursor c.args.first c.args.count known.result _ (known.ensures.0.1 c.args.cursor.line c.requires.0.line) c.if-known-count.true c.refuse_gate.result c.refuse_gate.ensures
+    let a = c.args in
+    let known = c.rows-known in
+    let row = gates_known a.cursor.rest.now a.first a.count known.result known.ensures (λ s j r p. search rules) in
+    let stop = gate_stop a.cursor.rest.now a.first a.count known.result known.ensures (λ s j r p. search rules) c.if-known-count.true in
+    gates_refuse _ a.cursor.line a.first a.count known.result _ _ (row.1 a.cursor.line) c.if-known-count.true c.refuse.result
+    (gate_refused _ _ (λ f r p. search rules) stop c.refuse.result (refused_at c.past-next.result c.past-next.ensures c.refuse.ensures))
 
 pub returns : goal.returns
 returns c =
-    let known = c.plain_gates-known in
-    all_gates (omega (arith, known.ensures.0.0)) (known.ensures.0.1 c.args.cursor.line c.requires.0.line)
+    let a = c.args in
+    let known = c.rows-known in
+    let row = gates_known a.cursor.rest.now a.first a.count known.result known.ensures (λ s j r p. search rules) in
+    rw (c.past-next.ensures.0, c.past-next.ensures.1) (all_gates _ _ _ _ (omega (arith, known.ensures.few)) (row.1 a.cursor.line))

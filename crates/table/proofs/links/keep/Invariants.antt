@@ -4,4 +4,4 @@ use Rattle.std.proofs.lemmas.List.Edits.{sets}
 use Rattle.table.proofs.links.keep.Given as goal
 
 abbrev pub invariant-loop-i : goal.invariant-loop-i
-invariant-loop-i l = sets l.work (l.at + l.i) (drop l.i l.numbers) ≡ sets l.initial.work l.at l.numbers
+invariant-loop-i l = sets l.links (l.at + l.i) (drop l.i l.numbers) ≡ sets l.initial.links l.at l.numbers

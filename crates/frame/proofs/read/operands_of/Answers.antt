@@ -1,0 +1,32 @@
+-- Where LF stands elsewhere, or a field is not all digits, the line has another length than its kind; else it has these fields (`line_says`).
+use mathlib.Core.Path.{refl}
+use mathlib.Core.List.{[], ◌∷◌}
+use Rattle.std.specs.Prelude.{Some, None}
+use Rattle.model.specs.Frames.{total, two_bytes}
+use Rattle.frame.proofs.FieldLaws.{unfed, line_says}
+use Rattle.frame.proofs.read.operands_of.Goals as goal
+
+pub returns-then-not-feeds : goal.returns-then-not-feeds
+unfolding total
+returns-then-not-feeds c = unfed c.args.text.now (two_bytes ∷ two_bytes ∷ []) c.feeds.ensures refl c.if-not-feeds.true
+
+pub returns-in_err-x : goal.returns-in_err-x
+unfolding total
+returns-in_err-x c =
+    let a = c.args in
+    rw c.from_residual.ensures
+    (line_says a.text.now (two_bytes ∷ two_bytes ∷ []) c.feeds.ensures refl c.if-not-feeds.false refl None (rw (← c.word_at.ensures, c.in_err-x.was)))
+
+pub returns-in_err-y : goal.returns-in_err-y
+unfolding total
+returns-in_err-y c =
+    let a = c.args in
+    rw c.from_residual-in_err-y.ensures
+    (line_says a.text.now (two_bytes ∷ two_bytes ∷ []) c.feeds.ensures refl c.if-not-feeds.false refl None (rw (← c.word_at.ensures, c.in_ok-x.was, ← c.word_at-2.ensures, c.in_err-y.was)))
+
+pub returns : goal.returns
+unfolding total
+returns c =
+    let a = c.args in
+    line_says a.text.now (two_bytes ∷ two_bytes ∷ []) c.feeds.ensures refl c.if-not-feeds.false refl (Some (c.in_ok-x.x ∷ c.in_ok-y.y ∷ []))
+    (rw (← c.word_at.ensures, c.in_ok-x.was, ← c.word_at-2.ensures, c.in_ok-y.was))
