@@ -4,11 +4,11 @@
 mod report; // a stream's report
 
 use report::report;
-use streams::{STREAM_ROOM, answer_stream, print, room};
+use streams::{answer_stream, print, stream_room};
 
 // Name, buffer, answer and output differ from the other programs'; what they share is in `streams`.
 fn main(rt: HostRuntime) {
-    let mut stream = room::<STREAM_ROOM>();
+    let mut stream = stream_room();
     answer_stream(
         &rt,
         &mut stream,

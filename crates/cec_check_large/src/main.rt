@@ -4,15 +4,24 @@
 
 mod report; // a stream's report
 
+ghost use Rattle.std.specs.Prelude.{◌≡◌, length};
+
 use report::report;
 use streams::{answer_stream, print, room};
 
 // One byte more than a stream may have.
 const LARGE_ROOM: usize = 4194305;
 
+// An empty buffer of that size.
+fn large_room() -> [u8; LARGE_ROOM]
+    ensures { length result ≡ 4194305 }
+{
+    room::<LARGE_ROOM>()
+}
+
 // Name, buffer, answer and output differ from the other programs'; what they share is in `streams`.
 fn main(rt: HostRuntime) {
-    let mut stream = room::<LARGE_ROOM>();
+    let mut stream = large_room();
     answer_stream(
         &rt,
         &mut stream,

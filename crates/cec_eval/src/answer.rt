@@ -43,6 +43,6 @@ pub fn answer(stream: &[u8], pattern: u64) -> Printed
 {
     match evaluate_stream(stream, pattern) {
         Ok(word) => word_line(word),
-        Err(refusal) => refusal_line(refusal),
+        Err(refusal) => refusal_line(refusal.reason.number(), refusal.line),
     }
 }

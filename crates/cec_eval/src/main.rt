@@ -8,7 +8,7 @@ mod pattern; // the argument's pattern
 use answer::answer;
 use pattern::{PATTERN_DIGITS, pattern_of};
 use std::env::{Env, FillError};
-use streams::{STREAM_ROOM, answer_stream, complain, print, room};
+use streams::{answer_stream, complain, print, stream_room};
 
 // The pattern of the one argument. An argument that is longer than a pattern is none.
 fn argument(rt: &HostRuntime) -> Option<u64> {
@@ -31,7 +31,7 @@ fn main(rt: HostRuntime) {
         );
         return;
     };
-    let mut stream = room::<STREAM_ROOM>();
+    let mut stream = stream_room();
     answer_stream(
         &rt,
         &mut stream,

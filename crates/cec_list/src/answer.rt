@@ -39,6 +39,6 @@ pub fn answer(stream: &[u8]) -> Printed
 {
     match list_stream(stream) {
         Ok(list) => counts_line(&list),
-        Err(refusal) => refusal_line(refusal),
+        Err(refusal) => refusal_line(refusal.reason.number(), refusal.line),
     }
 }

@@ -1,170 +1,143 @@
--- A literal put into an array that has a clause. Each place takes the lower of its own literal and the one that is carried along, so behind the
--- places so far the clause goes on as if the carried one had been put into what is left of it.
+-- A literal put into an array that has a clause. Each place takes the lower of its own literal and the one that is carried along (`carry`), and
+-- behind the last literal the bound is carried; so the array has the clause with the literal, if that was not there.
 use Prim.Native.Nat.{ℕ, zero, suc, ◌+◌, ◌<◌, ◌≤◌, min, max}
 use mathlib.Core.Path.{◌≡◌, refl, sym, ap, ◌∙◌, subst}
-use mathlib.Core.List.{List, [], ◌∷◌, ◌++◌, append_assoc}
+use mathlib.Core.Bool.{true, false, true≢false, ◌||◌}
+use mathlib.Core.List.{List, [], ◌∷◌}
 use native.Mathlib.Nat.{min-le_left, min-eq_left, min-eq_right, max-eq_left, max-eq_right}
 use native.Mathlib.Omega.{arith}
-use mathlib.Core.Logic.{◌⊎◌, inl, inr}
-use lib.ListN.{length, get_or, set, take, length-append, length-map, length-take}
+use borrow.Author.Tests.{eq-eqb}
+use lib.Dec.{eqb}
+use lib.ListN.{length, get_or, set, take, drop, length-map, length-take}
 use Rattle.std.proofs.lemmas.List.{map-append, take_more}
 use Rattle.model.specs.Limits.{clause_width}
-use Rattle.model.specs.Clauses.{Clause, insert, clause_of}
+use Rattle.model.specs.Clauses.{Clause, insert, holds, clause_of}
 use Rattle.literal.specs.declared.Literal.{Literal}
-use Rattle.clause.specs.Places.{literal_bound, filled, Whole}
-use Rattle.clause.specs.Sets.{Above, Ascending, codes}
-use Rattle.clause.proofs.SetLaws.{by_order, insert_first, insert_later, insert_again, length_join, join_more}
+use Rattle.clause.specs.Places.{literal_bound, head_of, filled, Whole}
+use Rattle.clause.specs.Sets.{Ascending, codes}
+use Rattle.clause.proofs.SetLaws.{by_order, holds_more, eqb_sym, insert_first, insert_later, insert_again, length_join, join_more}
 use Rattle.clause.proofs.PlaceLaws.{filled_front}
 
--- ---- one list behind another
+-- ---- whether a clause holds a literal
 
-filled_append : (n k : ℕ) (a c : Clause) → k ≡ length a + n → filled k (a ++ c) ≡ a ++ filled n c
-filled_append n k [] c e = let z : k ≡ n = omega arith in rw z
-filled_append n zero (x ∷ a) c e = absurd (omega arith)
-filled_append n (suc k) (x ∷ a) c e = ap (λ (t : List ℕ). x ∷ t) (filled_append n k a c (omega arith))
+-- it does where the literal stands first, or where the rest holds it
+pub holds_head : (l : ℕ) (c : Clause) → 0 < length c → holds l c ≡ eqb (head_of c) l || holds l (drop 1 c)
+unfolding holds
+holds_head l [] h = absurd (omega arith)
+holds_head l (x ∷ c) h = ap (λ b. b || holds l c) (eqb_sym l x)
 
-at_end : (a b : List ℕ) (x i : ℕ) → length a ≡ i → get_or (a ++ (x ∷ b)) i 0 ≡ x
-at_end [] b x zero e = refl
-at_end [] b x (suc i) e = absurd (omega arith)
-at_end (y ∷ a) b x zero e = absurd (omega arith)
-at_end (y ∷ a) b x (suc i) e = at_end a b x i (omega arith)
+holds_first : (l x : ℕ) (c : Clause) → l ≡ x → holds l (x ∷ c) ≡ true
+unfolding holds
+holds_first l x c e = rw (eq-eqb l x e)
 
-set_end : (a b : List ℕ) (x y i : ℕ) → length a ≡ i → set (a ++ (x ∷ b)) i y ≡ a ++ (y ∷ b)
-set_end [] b x y zero e = refl
-set_end [] b x y (suc i) e = absurd (omega arith)
-set_end (z ∷ a) b x y zero e = absurd (omega arith)
-set_end (z ∷ a) b x y (suc i) e = ap (λ (t : List ℕ). z ∷ t) (set_end a b x y i (omega arith))
+-- a literal below the first is not there
+lacks_lower : (l x : ℕ) (c : Clause) → l < x → Ascending (x ∷ c) → holds l (x ∷ c) ≡ false
+unfolding holds
+lacks_lower l x [] h a = holds_more l x [] (λ e. omega arith)
+lacks_lower l x (y ∷ c) h a = holds_more l x (y ∷ c) (λ e. omega arith) ∙ lacks_lower l y c (omega (arith, a.0)) a.1
 
--- ---- a turn
+lacks_more : (l x : ℕ) (c : Clause) → x < l → holds l (x ∷ c) ≡ false → holds l c ≡ false
+lacks_more l x c h n = sym (holds_more l x c (λ e. omega arith)) ∙ n
 
--- what is carried is the literal itself, or one above it that stood before what is left
-abbrev pub Carried : ℕ → ℕ → Clause → Type 0
-Carried l carried c = (carried ≡ l) ⊎ ((l < carried) × Above carried c)
+-- ---- what an insertion leaves
 
-record Turned (l x carried lower higher : ℕ) (c : Clause) : Type 0 where
-  places : insert carried (x ∷ c) ≡ lower ∷ insert higher c
-  goes_on : Carried l higher c
-
--- what is carried stands before x, which is carried on
-put_down : (l x carried : ℕ) (c : Clause) → Above x c → l < x → carried < x → Turned l x carried (min x carried) (max x carried) c
-put_down l x carried c a g h =
-    rw (min-eq_right {n = carried} {m = x} (omega arith), max-eq_left {n = x} {m = carried} (omega arith))
-    (record { places = insert_first carried (x ∷ c) h ∙ ap (λ (t : List ℕ). carried ∷ t) (sym (insert_first x c a)); goes_on = inr (g, a) })
-
-turned : (l x carried : ℕ) (c : Clause) → Above x c → (x ≡ l → ⊥) → Carried l carried (x ∷ c) → Turned l x carried (min x carried) (max x carried) c
-turned l x carried c a n (inl e) =
+-- a literal that is there changes nothing
+pub insert_there : (l : ℕ) (c : Clause) → Ascending c → holds l c ≡ true → insert l c ≡ c
+unfolding holds
+insert_there l [] a h = absurd (true≢false (sym h))
+insert_there l (x ∷ c) a h =
     by_order l x
-    (λ h. put_down l x carried c a h (omega arith))
-    (λ h. rw (min-eq_left {n = x} {m = carried} (omega arith), max-eq_right {n = x} {m = carried} (omega arith))
-    (record { places = insert_later x carried c (omega arith); goes_on = inl e }))
-    (λ d. absurd (n (sym d)))
-turned l x carried c a n (inr h) = put_down l x carried c a (omega arith) h.1
+    (λ o. absurd (true≢false (sym h ∙ lacks_lower l x c o a)))
+    (λ o. insert_later x l c o ∙ ap (λ (t : Clause). x ∷ t) (insert_there l c a.1 (sym (holds_more l x c (λ e. omega arith)) ∙ h)))
+    (λ e. rw e (insert_again x c))
+
+-- one that is not makes the clause longer by one
+length_more : (l : ℕ) (c : Clause) → holds l c ≡ false → length (insert l c) ≡ length c + 1
+unfolding insert
+length_more l [] n = refl
+length_more l (x ∷ c) n =
+    by_order l x
+    (λ o. ap length (insert_first l (x ∷ c) o) ∙ omega arith)
+    (λ o. ap length (insert_later x l c o) ∙ omega (arith, length_more l c (lacks_more l x c o n)))
+    (λ e. absurd (true≢false (sym (holds_first l x c e) ∙ n)))
 
 -- ---- the array
 
--- after i turns: the places so far, and what is left of the clause with its places
-record Between (l : ℕ) (p literals : List ℕ) (carried i : ℕ) (done left : List ℕ) (places : ℕ) : Type 0 where
-  at : length done ≡ i
-  room : i + places ≡ clause_width
-  was : i + length left ≡ length p
-  rising : Ascending left
-  here : literals ≡ done ++ filled places left
-  due : insert l p ≡ done ++ insert carried left
-  carries : Carried l carried left
+-- the places, once the turns from place i on have carried a literal along
+abbrev pub carry : ℕ → ℕ → List ℕ → List ℕ
+carry i carried [] = []
+carry zero carried (x ∷ xs) = min x carried ∷ carry zero (max x carried) xs
+carry (suc i) carried (x ∷ xs) = x ∷ carry i carried xs
 
-pub record Inserting (l : ℕ) (p literals : List ℕ) (carried i : ℕ) : Type 0 where
-  done : List ℕ
-  left : List ℕ
-  places : ℕ
-  between : Between l p literals carried i done left places
+-- a turn that puts the lower and carries the higher leaves the same for the turns behind it
+pub carry_turn : (i carried : ℕ) (xs : List ℕ) {lower higher : ℕ}
+    → i < length xs → lower ≡ min (get_or xs i 0) carried → higher ≡ max (get_or xs i 0) carried
+    → carry (suc i) higher (set xs i lower) ≡ carry i carried xs
+carry_turn i carried [] h e f = absurd (omega arith)
+carry_turn zero carried (x ∷ xs) h e f = rw (e, f) refl
+carry_turn (suc i) carried (x ∷ xs) h e f = ap (λ (t : List ℕ). x ∷ t) (carry_turn i carried xs (omega arith) e f)
 
-pub begins : (l : ℕ) (p : Clause) → Ascending p → Inserting l p (filled clause_width p) l 0
-begins l p a =
-    record {
-      done = [];
-      left = p;
-      places = clause_width;
-      between = record { at = refl; room = omega arith; was = omega arith; rising = a; here = refl; due = refl; carries = inl refl };
-    }
+pub carry_end : (i carried : ℕ) (xs : List ℕ) → length xs ≤ i → carry i carried xs ≡ xs
+carry_end i carried [] h = refl
+carry_end zero carried (x ∷ xs) h = absurd (omega arith)
+carry_end (suc i) carried (x ∷ xs) h = ap (λ (t : List ℕ). x ∷ t) (carry_end i carried xs (omega arith))
 
--- an array that is filled with a clause, all of whose literals are counted
-pub record Filled (literals : List ℕ) (len : ℕ) (c : Clause) : Type 0 where
-  pub whole : Whole literals len
-  pub seen : take len literals ≡ c
+-- the lower of two is put, and the other is carried on
+put_carried : (x carried : ℕ) (xs : List ℕ) → carried ≤ x → carry zero carried (x ∷ xs) ≡ carried ∷ carry zero x xs
+put_carried x carried xs h = rw (min-eq_right {n = carried} {m = x} h, max-eq_left {n = x} {m = carried} h)
 
-filled_by : (literals : List ℕ) (len : ℕ) (c : Clause) → literals ≡ filled clause_width c → len ≡ length c → len ≤ clause_width → Filled literals len c
-filled_by literals len c e n w =
-    let s : take len literals ≡ c = ap (take len) e ∙ ap (λ (k : ℕ). take k (filled clause_width c)) n ∙ filled_front clause_width c (omega arith) in
-    record { whole = record { room = w; behind = e ∙ ap (filled clause_width) (sym s) }; seen = s }
+put_own : (x carried : ℕ) (xs : List ℕ) → x ≤ carried → carry zero carried (x ∷ xs) ≡ x ∷ carry zero carried xs
+put_own x carried xs h = rw (min-eq_left {n = x} {m = carried} h, max-eq_right {n = x} {m = carried} h)
 
-module _ (l : ℕ) (p literals : List ℕ) (carried i x : ℕ) where
-  found_at : (done left : List ℕ) (places : ℕ) → Between l p literals carried i done left places → i < length p → length p ≤ clause_width
-      → x ≡ get_or literals i 0 → x ≡ l → Filled literals (length p) (insert l p)
-  found_at done [] places b n w e d = absurd (omega (arith, b.was))
-  found_at done (y ∷ c) zero b n w e d = absurd (omega (arith, b.room))
-  found_at done (y ∷ c) (suc k) b n w e d =
-      let s : y ≡ l = sym (rw b.here at e ∙ at_end done (filled k c) y i b.at) ∙ d in
-      let q : insert l p ≡ done ++ (y ∷ c) = b.due ∙ ap (λ (t : List ℕ). done ++ t) (held b.carries s) in
-      filled_by literals (length p) (insert l p)
-      (b.here ∙ sym (ap (filled clause_width) q ∙ filled_append (suc k) clause_width done (y ∷ c) (omega (arith, b.room, b.at))))
-      (sym (ap length q ∙ length-append done (y ∷ c) ∙ omega (arith, b.at, b.was))) w
-    where
-      held : Carried l carried (y ∷ c) → y ≡ l → insert carried (y ∷ c) ≡ y ∷ c
-      held (inl f) g = rw (f, ← g) (insert_again y c)
-      held (inr f) g = absurd (omega arith)
+-- no place is above the bound
+abbrev pub Bounded : List ℕ → Type 0
+Bounded xs = (k : ℕ) → get_or xs k 0 ≤ literal_bound
 
-  turn_at : (done left : List ℕ) (places : ℕ) → Between l p literals carried i done left places → i < length p → length p ≤ clause_width
-      → x ≡ get_or literals i 0 → (x ≡ l → ⊥) → Inserting l p (set literals i (min x carried)) (max x carried) (i + 1)
-  turn_at done [] places b n w e d = absurd (omega (arith, b.was))
-  turn_at done (y ∷ c) zero b n w e d = absurd (omega (arith, b.room, b.was))
-  turn_at done (y ∷ c) (suc k) b n w e d =
-      let s : x ≡ y = rw b.here at e ∙ at_end done (filled k c) y i b.at in
-      let t : Turned l x carried (min x carried) (max x carried) c = turned l x carried c (rw (← s) at b.rising.0) d (rw (← s) at b.carries) in
-      let lower : ℕ = min x carried in
-      record {
-        done = done ++ (lower ∷ []);
-        left = c;
-        places = k;
-        between = record {
-          at = length-append done (lower ∷ []) ∙ omega (arith, b.at);
-          room = omega (arith, b.room);
-          was = omega (arith, b.was);
-          rising = b.rising.1;
-          here = ap (λ (a : List ℕ). set a i lower) b.here ∙ set_end done (filled k c) y lower i b.at ∙ sym (append_assoc done (lower ∷ []) (filled k c));
-          due = b.due ∙ ap (λ (a : List ℕ). done ++ a) (ap (λ (z : ℕ). insert carried (z ∷ c)) (sym s) ∙ t.places) ∙ sym (append_assoc done (lower ∷ []) (insert (max x carried) c));
-          carries = t.goes_on;
-        };
-      }
+carry_bound : (n : ℕ) → carry zero literal_bound (filled n []) ≡ filled n []
+carry_bound zero = refl
+carry_bound (suc n) = ap (λ (t : List ℕ). literal_bound ∷ t) (carry_bound n)
 
-  ends_at : (done left : List ℕ) (places : ℕ) → Between l p literals carried i done left places → length p ≤ i → i < clause_width
-      → Filled (set literals i carried) (i + 1) (insert l p)
-  unfolding insert
-  ends_at done (y ∷ c) places b n w = absurd (omega (arith, b.was))
-  ends_at done [] zero b n w = absurd (omega (arith, b.room))
-  ends_at done [] (suc k) b n w =
-      let q : insert l p ≡ done ++ (carried ∷ []) = b.due in
-      filled_by (set literals i carried) (i + 1) (insert l p)
-      (ap (λ (a : List ℕ). set a i carried) b.here ∙ set_end done (filled k []) literal_bound carried i b.at
-      ∙ sym (ap (filled clause_width) q ∙ filled_append (suc k) clause_width done (carried ∷ []) (omega (arith, b.room, b.at))))
-      (sym (ap length q ∙ length-append done (carried ∷ []) ∙ omega (arith, b.at))) (omega arith)
+-- from the literal's place on each takes the one before it
+carry_past : (n x : ℕ) (c : Clause) → x ≤ literal_bound → Ascending (x ∷ c) → Bounded (filled n c) → carry zero x (filled n c) ≡ filled n (x ∷ c)
+carry_past zero x c m a h = refl
+carry_past (suc n) x [] m a h = put_carried literal_bound x (filled n []) m ∙ ap (λ (t : List ℕ). x ∷ t) (carry_bound n)
+carry_past (suc n) x (y ∷ c) m a h =
+    put_carried y x (filled n c) (omega (arith, a.0)) ∙ ap (λ (t : List ℕ). x ∷ t) (carry_past n y c (h 0) a.1 (λ k. h (suc k)))
 
-module _ {l : ℕ} {p literals : List ℕ} {carried i : ℕ} (h : Inserting l p literals carried i) (len : ℕ) (all : len ≡ length p) (room : len < clause_width) where
-  -- the literal was there already
-  pub found : i < len → get_or literals i 0 ≡ l → Filled literals len (insert l p)
-  found n e =
-      subst (λ (k : ℕ). Filled literals k (insert l p)) (sym all)
-      (found_at l p literals carried i _ h.done h.left h.places h.between (omega arith) (omega arith) refl e)
+carry_insert : (n l : ℕ) (c : Clause) → l ≤ literal_bound → Ascending c → holds l c ≡ false → Bounded (filled n c)
+    → carry zero l (filled n c) ≡ filled n (insert l c)
+unfolding insert
+carry_insert zero l c m a g h = refl
+carry_insert (suc n) l [] m a g h = put_carried literal_bound l (filled n []) m ∙ ap (λ (t : List ℕ). l ∷ t) (carry_bound n)
+carry_insert (suc n) l (x ∷ c) m a g h =
+    by_order l x
+    (λ o.
+    put_carried x l (filled n c) (omega arith) ∙ ap (λ (t : List ℕ). l ∷ t) (carry_past n x c (h 0) a (λ k. h (suc k)))
+    ∙ sym (ap (filled (suc n)) (insert_first l (x ∷ c) o)))
+    (λ o.
+    put_own x l (filled n c) (omega arith) ∙ ap (λ (t : List ℕ). x ∷ t) (carry_insert n l c m a.1 (lacks_more l x c o g) (λ k. h (suc k)))
+    ∙ sym (ap (filled (suc n)) (insert_later x l c o)))
+    (λ e. absurd (true≢false (sym (holds_first l x c e) ∙ g)))
 
-  pub turn : i < len → (get_or literals i 0 ≡ l → ⊥)
-      → Inserting l p (set literals i (min (get_or literals i 0) carried)) (max (get_or literals i 0) carried) (i + 1)
-  turn n e = turn_at l p literals carried i _ h.done h.left h.places h.between (omega arith) (omega arith) refl e
+-- the struct's array and length, one more, are those of the clause with the literal
+abbrev pub Ended : ℕ → ℕ → Clause → List ℕ → Type 0
+Ended l len c literals = Whole literals (len + 1) × (take (len + 1) literals ≡ insert l c)
 
-  -- behind the last the one that is carried is put
-  pub ends : len ≤ i → Filled (set literals len carried) (len + 1) (insert l p)
-  ends n =
-      let e : i ≡ len = omega (arith, h.between.was) in
-      subst (λ (k : ℕ). Filled (set literals k carried) (k + 1) (insert l p)) e
-      (ends_at l p literals carried i 0 h.done h.left h.places h.between (omega arith) (omega arith))
+module _ (l len : ℕ) (c : Clause) (literals : List ℕ) (lacks : holds l c ≡ false) where
+  -- the turns from the first place on make the array of the clause with the literal
+  pub begins : Whole literals len → take len literals ≡ c → l ≤ literal_bound → Ascending c → Bounded literals
+      → carry zero l literals ≡ filled clause_width (insert l c)
+  begins w s m a h =
+      let e : literals ≡ filled clause_width c = w.behind ∙ ap (filled clause_width) s in
+      ap (carry zero l) e ∙ carry_insert clause_width l c m a lacks (subst Bounded e h)
+
+  -- that array has it with one literal more
+  pub ends : len ≡ length c → len < clause_width → literals ≡ filled clause_width (insert l c) → Ended l len c literals
+  ends d h e =
+      let all : Clause = insert l c in
+      let n : len + 1 ≡ length all = omega (arith, length_more l c lacks) in
+      let s : take (len + 1) literals ≡ all = rw (n, e) (filled_front clause_width all (omega arith)) in
+      (record { room = omega arith; behind = e ∙ ap (filled clause_width) (sym s) }, s)
 
 -- ---- literals in any order, one by one
 

@@ -26,7 +26,7 @@ pub holds_more : (l x : ℕ) (c : Clause) → (x ≡ l → ⊥) → holds l (x �
 unfolding holds
 holds_more l x c h = rw (ne_eqb l x (λ e. h (sym e)))
 
-eqb_sym : (a b : ℕ) → eqb a b ≡ eqb b a
+pub eqb_sym : (a b : ℕ) → eqb a b ≡ eqb b a
 eqb_sym a b = grind (arith, nat_tests)
 
 -- a clause holds a literal where it stands first, or where the rest holds it

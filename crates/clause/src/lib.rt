@@ -8,7 +8,7 @@ pub mod store; // clauses put into the store
 
 ghost use Rattle.std.specs.Prelude.{◌≡◌, ◌<◌, ◌≤◌, length};
 ghost use Rattle.model.specs.Limits.{clause_width};
-ghost use Rattle.model.specs.Clauses.{clause_of, insert, is_empty};
+ghost use Rattle.model.specs.Clauses.{clause_of, holds, insert, is_empty};
 ghost use Rattle.clause.specs.Sets.{Ascending, codes};
 
 use literal::Literal;
@@ -71,29 +71,46 @@ impl Clause {
         len
     }
 
+    // The literals in use.
+    pub fn literals(&self) -> &[u16]
+        ensures { result.now ≡ self.now }
+    {
+        &self.literals[..self.len]
+    }
+
     pub fn is_empty(self) -> bool
         ensures { result ≡ is_empty self }
     {
         self.len == 0
     }
 
-    // One literal more, if it is not there. Each place takes the lower of its own and the one that is carried along, by no branch: which is lower
-    // follows no pattern.
+    // Whether a literal is among those in use. All places are looked at, so that no branch depends on where it stands.
+    fn holds(self, l: u16) -> bool
+        ensures { result ≡ holds l self }
+    {
+        let mut met = false;
+        for i in 0..Clause::WIDTH {
+            met |= i < self.len && self.literals[i] == l;
+        }
+        met
+    }
+
+    // One literal more, if it is not there. Each place takes the lower of its own and the one that is carried along, and behind the last literal the
+    // bound is carried on: no branch depends on which is lower, or on how many there are.
     fn insert(&mut self, l: u16)
         requires room { length self.old < clause_width }
         requires ascending { Ascending self.old }
         ensures { self.new ≡ insert l self.old }
     {
+        if self.holds(l) {
+            return;
+        }
         let mut carried = l;
-        for i in 0..self.len {
+        for i in 0..Clause::WIDTH {
             let x = self.literals[i];
-            if x == l {
-                return;
-            }
             self.literals[i] = x.min(carried);
             carried = x.max(carried);
         }
-        self.literals[self.len] = carried;
         self.len += 1;
     }
 }

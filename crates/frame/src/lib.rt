@@ -108,7 +108,9 @@ fn end_of(cursor: Cursor<'_>) -> Result<(), Refusal>
     Err(fault_of(cursor.rest).at(cursor.line))
 }
 
-// The line at a cursor as a frame, with the cursor behind it; none at the end of the text.
+// The line at a cursor as a frame, with the cursor behind it; none at the end of the text. Inlined, since a reply of this size comes back through
+// memory, which takes as long as reading a short line.
+#[inline(always)]
 pub fn read_line(cursor: Cursor<'_>) -> Result<Option<(Frame, Cursor<'_>)>, Refusal>
     ensures reads { first_of result ≡ first (lines cursor.entry.rest.now) cursor.entry.line }
     ensures ahead { Ahead cursor.entry.rest.now result }

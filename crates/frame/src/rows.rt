@@ -16,7 +16,9 @@ pub fn op_line(text: &[u8]) -> Option<Op>
     Some(op)
 }
 
-// The gate of the first line, or there is no gate.
+// The gate of the first line, or there is no gate. Inlined, since whoever reads rows asks for the operands alone, and a call hands back all three
+// in memory.
+#[inline(always)]
 pub fn gate_line(text: &[u8]) -> Option<Gate>
     ensures { GateSays text.now result }
 {

@@ -23,7 +23,7 @@ pub struct Counts {
 }
 
 // The lines from a list's header on, and what that states.
-#[derive(Drop)]
+#[derive(Clone, Drop)]
 pub struct GateList<'a> {
     lines: &'a [u8],
     counts: Counts,

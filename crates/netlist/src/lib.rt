@@ -18,7 +18,9 @@ use listing::{Counts, GateList};
 use pair::Pair;
 use refusal::{Reason, Refusal};
 
-// The list whose header was read, with what stands behind that; and the cursor behind the list.
+// The list whose header was read, with what stands behind that; and the cursor behind the list. Inlined, as are those that hand it on and what they
+// call in `lines`: a list and a cursor come back through memory, which for a short list takes as long as reading it.
+#[inline(always)]
 fn read_behind<'a>(
     header: Cursor<'a>,
     counts: Counts,
@@ -32,6 +34,7 @@ fn read_behind<'a>(
 }
 
 // A list at a cursor, and the cursor behind it.
+#[inline(always)]
 fn read_part(cursor: Cursor<'_>) -> Result<(GateList<'_>, Cursor<'_>), Refusal>
     ensures { PartSays cursor.entry result }
 {
@@ -40,6 +43,7 @@ fn read_part(cursor: Cursor<'_>) -> Result<(GateList<'_>, Cursor<'_>), Refusal>
 }
 
 // The right list behind a left one: its header is held to the left's before its gates are read.
+#[inline(always)]
 fn read_right<'a>(
     left: &GateList<'_>,
     middle: Cursor<'a>,

@@ -21,6 +21,7 @@ pub const MOST_GATES: u16 = 1024;
 pub const MOST_OUTPUTS: u8 = 64;
 
 // The frame at a cursor where a list's is due, and the cursor behind it: a text that has ended is 4.
+#[inline(always)]
 fn due_frame(cursor: Cursor<'_>) -> Result<(Frame, Cursor<'_>), Refusal>
     ensures { DueSays cursor.entry result }
 {
@@ -37,6 +38,7 @@ fn in_range(inputs: u8, gates: u16, outputs: u8) -> bool
     inputs <= MOST_INPUTS && gates <= MOST_GATES && outputs > 0 && outputs <= MOST_OUTPUTS
 }
 
+#[inline(always)]
 pub fn read_header(cursor: Cursor<'_>) -> Result<(Counts, Cursor<'_>), Refusal>
     ensures { HeaderSays cursor.entry result }
 {
@@ -128,6 +130,7 @@ pub fn read_outputs(cursor: Cursor<'_>, nets: usize, count: usize) -> Result<Cur
 }
 
 // The gates and the outputs behind a header.
+#[inline(always)]
 pub fn read_body(cursor: Cursor<'_>, counts: Counts) -> Result<Cursor<'_>, Refusal>
     requires { (counts.inputs ≤ most_inputs) × (counts.gates ≤ most_gates) × (counts.outputs ≤ most_outputs) }
     ensures { BodySays cursor.entry counts result }

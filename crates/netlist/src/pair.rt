@@ -65,7 +65,7 @@ impl Parts {
 }
 
 // Contracts see both lists of the definitions.
-#[derive(Drop)]
+#[derive(Clone, Drop)]
 pub struct Pair<'a> {
     pub left: GateList<'a>,
     pub right: GateList<'a>,

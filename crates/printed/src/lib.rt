@@ -5,13 +5,11 @@ ghost use Rattle.std.specs.Prelude.{◌≡◌, ◌≤◌, take};
 ghost use Rattle.model.specs.Limits.{highest_line};
 ghost use Rattle.model.specs.Frames.{line_of, stated_line};
 ghost use Rattle.frame.specs.Frames.{frame_of, report};
-ghost use Rattle.refusal.specs.Answers.{number_of};
 ghost use Rattle.printed.specs.Printing.{Whole};
 
 use frame::fields::line_len;
 use frame::kinds::REPORT_BYTES;
 use frame::{Frame, write_frame};
-use refusal::Refusal;
 use std::marker::Model;
 
 // The bytes to print are the first `len`; behind them stand zeros.
@@ -68,10 +66,15 @@ pub fn frame_line(frame: Frame) -> Printed
     Printed::of(line, line_len(frame))
 }
 
-// A refusal's report frame.
-pub fn refusal_line(refusal: Refusal) -> Printed
-    requires { refusal.line ≤ highest_line }
-    ensures { result ≡ line_of (report (number_of refusal.reason) refusal.line 0 0) }
+// A refusal's report frame, by its number and line, whatever the number.
+pub fn refusal_line(number: u8, line: usize) -> Printed
+    requires { line ≤ highest_line }
+    ensures { result ≡ line_of (report number line 0 0) }
 {
-    frame_line(refusal.into())
+    frame_line(Frame::Report {
+        refusal: number,
+        line,
+        steps: 0,
+        clauses: 0,
+    })
 }

@@ -67,3 +67,8 @@ pub struct Refusal {
     // 0 where it has no line, as the paper's replies state it.
     pub line: usize,
 }
+
+impl Refusal {
+    // The number that a report states where nothing is refused.
+    pub const NONE: u8 = 0;
+}

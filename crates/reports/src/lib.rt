@@ -37,7 +37,7 @@ fn line_of(checked: Result<Accepted, Refusal>) -> [u8; REPORT_BYTES]
     ensures { (a : Answer State) → answer_of checked ≡ counted_of a → result ≡ line_of (model.report_of a) }
 {
     match checked {
-        Ok(accepted) => report_line(0, 0, accepted.steps as u16, accepted.clauses as u16),
+        Ok(a) => report_line(Refusal::NONE, 0, a.steps as u16, a.clauses as u16),
         Err(refusal) => report_line(refusal.reason.number(), refusal.line, 0, 0),
     }
 }

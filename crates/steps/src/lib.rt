@@ -4,7 +4,7 @@
 
 pub mod gates; // a gate's clauses, put into the store
 
-ghost use Rattle.std.specs.Prelude.{◌≡◌, ℕ, ◌+◌, ◌*◌, ◌<◌, ◌≤◌, [], ◌∷◌, ◌++◌, ◌&&◌, leb, ltb, length, get_or};
+ghost use Rattle.std.specs.Prelude.{◌≡◌, ℕ, ◌+◌, ◌*◌, ◌<◌, ◌≤◌, [], ◌∷◌, ◌++◌, ◌&&◌, leb, ltb, length, get_or, OnErr};
 ghost use Rattle.model.specs.Limits.{clause_width, most_clauses, highest_variable};
 ghost use Rattle.clause.specs.Sets.{Rising, resolve_of, answer_of};
 ghost use Rattle.steps.specs.Kept.{extension, Kept, Kept_prop, replied, refused_at};
@@ -92,6 +92,7 @@ impl<'a> Proof<'a> {
     // Extend: the next unused variable becomes AND or XOR of two literals over variables in use.
     pub fn extend(&mut self, line: usize, op: Op, x: u16, y: u16) -> Result<(), Refusal>
         ensures step { replied result (state_of self.new) ≡ steps.step self.old.room line (state_of self.old) (extension op x y) }
+        ensures stays { OnErr result (state_of self.new ≡ state_of self.old) }
         ensures place { SamePlace self.old self.new }
     {
         let left = Literal::from(x);
@@ -137,6 +138,7 @@ impl<'a> Proof<'a> {
     // The resolvent on v of two clauses, whose numbers are from 1, becomes the next clause; or the reason why not.
     fn add_resolvent(&mut self, a: usize, b: usize, v: u16) -> Result<(), Reason>
         ensures step { (line : ℕ) → refused_at line result (state_of self.new) ≡ steps.step self.old.room line (state_of self.old) (steps.Step.resolve a b v) }
+        ensures stays { OnErr result (state_of self.new ≡ state_of self.old) }
         ensures place { SamePlace self.old self.new }
     {
         if !is_clause(self.clauses, a) {
@@ -159,6 +161,7 @@ impl<'a> Proof<'a> {
     // bits would ask more of a caller.
     pub fn resolve(&mut self, line: usize, a: usize, b: usize, v: u16) -> Result<(), Refusal>
         ensures step { replied result (state_of self.new) ≡ steps.step self.old.room line (state_of self.old) (steps.Step.resolve a b v) }
+        ensures stays { OnErr result (state_of self.new ≡ state_of self.old) }
         ensures place { SamePlace self.old self.new }
     {
         self.add_resolvent(a, b, v)

@@ -18,6 +18,13 @@ pub fn room<const N: usize>() -> [u8; N]
     [0; N]
 }
 
+// The buffer of a program that takes STREAM_BYTES.
+pub fn stream_room() -> [u8; STREAM_ROOM]
+    ensures { length result ≡ 65537 }
+{
+    room::<STREAM_ROOM>()
+}
+
 // Reads standard input to the start of the buffer, until the stream ends or the buffer is full, after so many bytes; or the error, which the
 // system may tell only once.
 pub fn read_stream(rt: &HostRuntime, buf: &mut [u8]) -> io::Result<usize>

@@ -12,4 +12,4 @@ returns-in-Ok c = rw (← c.in-Ok.ensures) c.word_line.ensures
 
 pub returns-in-Err : goal.returns-in-Err
 unfolding program
-returns-in-Err c = rw (← c.in-Err.ensures) c.refusal_line.ensures
+returns-in-Err c = rw (← c.in-Err.ensures, ← c.number.ensures) c.refusal_line.ensures

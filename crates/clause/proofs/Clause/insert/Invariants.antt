@@ -1,8 +1,12 @@
--- The array has the places so far, and behind them what is left of the clause (`Inserting`).
+-- What the turns that are left make of the places is the clause with the literal (`carry`).
 use Rattle.std.proofs.Common.{◌≡◌, length}
-use Rattle.clause.proofs.InsertLaws.{Inserting}
+use Rattle.model.specs.Limits.{clause_width}
+use Rattle.model.specs.Clauses.{insert}
+use Rattle.clause.specs.Places.{filled}
+use Rattle.clause.proofs.InsertLaws.{carry}
 use Rattle.clause.proofs.Clause.insert.Given as goal
 
 abbrev pub invariant-loop-i : goal.invariant-loop-i
 invariant-loop-i l =
-    (l.self-inside.len ≡ l.i-end) × (l.self-inside.len ≡ length l.fn.self) × Inserting l.l l.fn.self l.self-inside.literals l.carried l.i
+    (l.self-inside.len ≡ length l.fn.self) × (length l.self-inside.literals ≡ clause_width)
+    × (carry l.i l.carried l.self-inside.literals ≡ filled clause_width (insert l.l l.fn.self))
