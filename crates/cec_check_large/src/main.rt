@@ -4,7 +4,8 @@
 
 mod report; // a stream's report
 
-ghost use Rattle.std.specs.Prelude.{◌≡◌, length};
+ghost use Rattle.std.specs.Prelude.{◌≡◌, ◌+◌, length};
+ghost use Rattle.cec_check_large.specs.Large.{large_bytes};
 
 use report::report;
 use streams::{answer_stream, print, room};
@@ -14,7 +15,7 @@ const LARGE_ROOM: usize = 4194305;
 
 // An empty buffer of that size.
 fn large_room() -> [u8; LARGE_ROOM]
-    ensures { length result ≡ 4194305 }
+    ensures { length result ≡ large_bytes + 1 }
 {
     room::<LARGE_ROOM>()
 }

@@ -1,7 +1,8 @@
 // Standard input, read to its end, how long a program's stream may be, and its answer on standard output.
 #![tactic(auto)]
 
-ghost use Rattle.std.specs.Prelude.{◌≡◌, ◌≤◌, length, IfOk};
+ghost use Rattle.std.specs.Prelude.{◌≡◌, ◌+◌, ◌≤◌, length, IfOk};
+ghost use Rattle.model.specs.Limits.{stream_bytes};
 
 use std::io::{self, Read, Write};
 
@@ -20,7 +21,7 @@ pub fn room<const N: usize>() -> [u8; N]
 
 // The buffer of a program that takes STREAM_BYTES.
 pub fn stream_room() -> [u8; STREAM_ROOM]
-    ensures { length result ≡ 65537 }
+    ensures { length result ≡ stream_bytes + 1 }
 {
     room::<STREAM_ROOM>()
 }

@@ -39,5 +39,5 @@ returns c =
     let o = c.emit.ensures h (none_written (length proof) (cleared proof _ (length proof) refl c.clear.ensures)) in (
       due_proof l ab _ _ (omega (arith, n.inputs, n.left, n.right, n.outputs, c.if-proof-bound.false)) (omega arith) (c.in_default.ensures h),
       o.0,
-      o.1,
+      omega (arith, o.1),
     )
