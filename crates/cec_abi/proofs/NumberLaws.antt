@@ -30,15 +30,15 @@ wrong = record { reason = Wrong; line = 0 }
 abbrev Fielded : ℕ → ℕ → Result ℕ Refusal → Type 0
 Fielded width n r = (t : Result ℕ TryFromIntError) × OkIff t (n < 16 ^ width) n × FieldOf t r
 
--- it fits, and is the field
-pub fits : (width n : ℕ) {x : ℕ} → Fielded width n (Ok x) → (x ≡ n) × (ltb n (16 ^ width) ≡ true)
-fits width n (Ok y, h, e) = (cc, lt-ltb n (16 ^ width) h.0)
-fits width n (Err y, h, e) = cc
+-- The number that `field` took is n: it fits, and is the field.
+pub fits : (width n : ℕ) {m x : ℕ} → Fielded width m (Ok x) → m ≡ n → (x ≡ n) × (ltb n (16 ^ width) ≡ true)
+fits width n (Ok y, h, e) same = (cc, lt-ltb n (16 ^ width) (omega (arith, h.0)))
+fits width n (Err y, h, e) same = cc
 
 -- or it does not, and is refused by 3 at line 0
-pub misfits : (width n : ℕ) {r : Refusal} → Fielded width n (Err r) → (r ≡ wrong) × (ltb n (16 ^ width) ≡ false)
-misfits width n (Ok y, h, e) = cc
-misfits width n (Err y, h, e) = (cc, le-ltb n (16 ^ width) (omega (arith, h)))
+pub misfits : (width n : ℕ) {m : ℕ} {r : Refusal} → Fielded width m (Err r) → m ≡ n → (r ≡ wrong) × (ltb n (16 ^ width) ≡ false)
+misfits width n (Ok y, h, e) same = cc
+misfits width n (Err y, h, e) same = (cc, le-ltb n (16 ^ width) (omega (arith, h)))
 
 pub in_any : (n : ℕ) → n < 2 ^ 64 → ltb n (16 ^ any_number) ≡ true
 in_any n h = lt-ltb n (16 ^ any_number) h

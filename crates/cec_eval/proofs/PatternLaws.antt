@@ -4,6 +4,7 @@ use mathlib.Core.Path.{◌≡◌, refl, sym, ap, ◌∙◌}
 use mathlib.Core.Bool.{Bool, true, false, ◌&&◌, cond, true≢false}
 use mathlib.Core.List.{List, [], ◌∷◌, map}
 use native.Mathlib.Omega.{arith}
+use native.Mathlib.Nat.{zero-add}
 use Rattle.std.specs.Prelude.{Some, None}
 use lib.Dec.{eqb, eqb-suc-suc}
 use lib.ListN.{length, length-map, length-drop, take, drop, drop_of_length-le}
@@ -11,7 +12,9 @@ use lib.Seq.{drop-drop}
 use borrow.Author.Tests.{eq-eqb, ne_eqb}
 use Rattle.model.specs.Lines.{is_digit, digit_value}
 use Rattle.model.specs.Frames.{number, two_bytes}
-use Rattle.digits.specs.Digits.{value_of, values, run, number_at}
+use Rattle.digits.specs.Digits.{value_of, values, run, number_at, spelt}
+use Rattle.digits.proofs.DigitLaws.{run_on, run_end}
+use Rattle.digits.proofs.ReadLaws.{spelt_some, spelt_none}
 use Rattle.cec_eval.specs.Program.{word_digits, all_digits, pattern_of}
 
 -- ---- digits alone
@@ -72,14 +75,31 @@ module _ (l : List ℕ) where
   unfolding pattern_of
   other_length h = rw (ne_eqb (length l) word_digits h)
 
-  pub other_byte : length l ≡ word_digits → (run l ≡ word_digits → ⊥) → None ≡ pattern_of l
+  other_byte : length l ≡ word_digits → (run l ≡ word_digits → ⊥) → None ≡ pattern_of l
   unfolding pattern_of
   other_byte e h = rw (all_run l, e, ne_eqb (run l) word_digits h)
 
-  pub spelled : length l ≡ word_digits → run l ≡ word_digits → (a b c d : ℕ) → a ≡ number_at l 0 two_bytes → b ≡ number_at l 4 two_bytes → c ≡ number_at l 8 two_bytes
+  spelled : length l ≡ word_digits → run l ≡ word_digits → (a b c d : ℕ) → a ≡ number_at l 0 two_bytes → b ≡ number_at l 4 two_bytes → c ≡ number_at l 8 two_bytes
       → d ≡ number_at l 12 two_bytes → Some (4294967296 * (65536 * a + b) + (65536 * c + d)) ≡ pattern_of l
   unfolding pattern_of number_at
   spelled e h a b c d p q r s =
       let all : all_digits l ≡ true = rw (all_run l, e, h) in
       rw (e, all, all_values l all)
       (ap Some (omega (arith, sixteen (values l) (length-map l value_of ∙ e), p, q, r, s)))
+
+  -- where a place has no word, a byte is no digit
+  pub no_word : (k : ℕ) → k + two_bytes ≤ word_digits → length l ≡ word_digits → None ≡ spelt l k two_bytes → None ≡ pattern_of l
+  no_word k h e none = other_byte e (λ all. omega (arith, spelt_none l k two_bytes none, on all))
+    where
+      on : run l ≡ word_digits → run l ≡ k + run (drop k l)
+      on all = rw (zero-add) at (run_on l 0 k (omega arith))
+
+  pub four_words : length l ≡ word_digits → (a b c d : ℕ) → Some a ≡ spelt l 0 two_bytes → Some b ≡ spelt l 4 two_bytes → Some c ≡ spelt l 8 two_bytes
+      → Some d ≡ spelt l 12 two_bytes → Some (4294967296 * (65536 * a + b) + (65536 * c + d)) ≡ pattern_of l
+  four_words e a b c d p q r s =
+      let w = spelt_some l 0 two_bytes p in
+      let x = spelt_some l 4 two_bytes q in
+      let y = spelt_some l 8 two_bytes r in
+      let z = spelt_some l 12 two_bytes s in
+      let all : run l ≡ word_digits = omega (arith, w.goes, x.goes, y.goes, z.goes, run_end l word_digits (omega arith)) in
+      spelled e all a b c d w.number x.number y.number z.number

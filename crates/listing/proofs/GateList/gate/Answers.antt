@@ -1,5 +1,7 @@
--- Where a list stands, the frame of gate k is read at its place (`PlaceLaws`).
+-- Where a list stands, the frame of gate k is read at its place (`PlaceLaws`). That the gate read there is the one returned is searched for, so that
+-- it may pass through another call.
 use native.Mathlib.Omega.{arith}
+use borrow.Author.Rules.{rules}
 use Rattle.listing.proofs.PlaceLaws.{rest_is, gate_inside, gate_there, gate_is}
 use Rattle.listing.proofs.GateList.gate.Goals as goal
 
@@ -12,10 +14,11 @@ slice_bounds-gate_line-start c = let l = c.self in omega (arith, gate_inside l.i
 pub unwrap-requires : goal.unwrap-requires
 unwrap-requires c =
     let l = c.self in
-    gate_there l.inside.lines.now l.invariant.stands c.args.k (rw (← l.view_is) at c.requires) c.gate_line.result (rw (rest_is) at c.gate_line.ensures)
+    let there = gate_there l.inside.lines.now l.invariant.stands c.args.k (rw (← l.view_is) at c.requires) c.gate_line.result (rw (rest_is) at c.gate_line.ensures) in
+    search (rules, there)
 
 pub returns : goal.returns
 returns c =
     let l = c.self in
     rw (← l.view_is)
-    (gate_is l.inside.lines.now l.invariant.stands c.args.k (rw (← l.view_is) at c.requires) c.unwrap.result c.gate_line.result (rw (rest_is) at c.gate_line.ensures) c.unwrap.ensures)
+    (gate_is l.inside.lines.now l.invariant.stands c.args.k (rw (← l.view_is) at c.requires) c.unwrap.result c.gate_line.result (rw (rest_is) at c.gate_line.ensures) (search rules))
